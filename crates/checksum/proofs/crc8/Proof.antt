@@ -1,0 +1,16 @@
+-- `checksum::crc8` meets its contract: the table's rule is one test over the whole table, which antt computes.
+use borrow.Author.Needs.{needs}
+use Rattle.checksum.specs.Register.{entered, taps8, taps, shifts, shifted}
+use Rattle.checksum.proofs.Table.{entry}
+use Rattle.checksum.proofs.crc8.Statement.{statement}
+use Rattle.checksum.proofs.crc8.Tie as tie
+
+through8-requires : tie.Need-through8-requires
+unfolding entered taps8 taps shifts shifted
+through8-requires c κs = λ k h. simp (entry (entered taps8 0))
+
+returns : tie.Need-returns
+returns c = search needs
+
+pub crc8-spec : {M : Type 1} → statement M
+crc8-spec = tie.close (tie.spec through8-requires returns)

@@ -1,0 +1,70 @@
+// The two checksums of the 1-Wire parts (document 01, "Probe identities" and "Packets"; application note 27).
+//
+// Each function gives the register after every bit of the slice, low bit first, has gone into a shift register that starts at zero:
+// CRC-8 with the terms 8, 5, 4, 0 and CRC-16 with the terms 16, 15, 2, 0. They work a byte at a time from a table of 256 entries,
+// and are proved equal to the register, bit by bit, for every slice.
+//
+// Worked example: of the nine bytes "123456789" the CRC-8 is A1h and the CRC-16 BB3Dh; of no bytes both are 0.
+mod tables;
+
+ghost use mathlib.Core.Path.{_≡_};
+ghost use Rattle.checksum.specs.Register.{crc8Of, crc16Of, taps8, taps16, entered, TableOf};
+
+// A constant array is laid out anew where it is used, so each table is lent once for a whole slice and not once for a byte.
+
+fn next8(table: &[u8; 256], register: u8, byte: u8) -> u8
+    requires { ⌜ TableOf taps8 (now table) ⌝ }
+    ensures { λ r. ⌜ r ≡ entered taps8 register byte ⌝ }
+{
+    let k = register ^ byte;
+    table[k as usize]
+}
+
+// The register of the CRC-16 is carried in 32 bits: narrower sums cost more on the machines that run this.
+fn next16(table: &[u16; 256], register: u32, byte: u8) -> u32
+    requires { ⌜ TableOf taps16 (now table) ⌝ }
+    ensures { λ r. ⌜ r ≡ entered taps16 register byte ⌝ }
+{
+    let k = (register % 256) as u8 ^ byte;
+    (table[k as usize] as u32) ^ (register / 256)
+}
+
+fn through8(table: &[u8; 256], bytes: &[u8]) -> u8
+    requires { ⌜ TableOf taps8 (now table) ⌝ }
+    ensures { λ r. ⌜ r ≡ crc8Of (now (bytes .entry)) ⌝ }
+{
+    let mut register: u8 = 0;
+    let mut i = 0;
+    while i < bytes.len() {
+        register = next8(table, register, bytes[i]);
+        i += 1;
+    }
+    register
+}
+
+fn through16(table: &[u16; 256], bytes: &[u8]) -> u32
+    requires { ⌜ TableOf taps16 (now table) ⌝ }
+    ensures { λ r. ⌜ r ≡ crc16Of (now (bytes .entry)) ⌝ }
+{
+    let mut register: u32 = 0;
+    let mut i = 0;
+    while i < bytes.len() {
+        register = next16(table, register, bytes[i]);
+        i += 1;
+    }
+    register
+}
+
+// The CRC-8 of the slice.
+pub fn crc8(bytes: &[u8]) -> u8
+    ensures { λ r. ⌜ r ≡ crc8Of (now (bytes .entry)) ⌝ }
+{
+    through8(&tables::TABLE8, bytes)
+}
+
+// The CRC-16 of the slice: the plain register. Whoever sends it inverts it.
+pub fn crc16(bytes: &[u8]) -> u16
+    ensures { λ r. ⌜ r ≡ crc16Of (now (bytes .entry)) ⌝ }
+{
+    through16(&tables::TABLE16, bytes) as u16
+}
