@@ -1,0 +1,283 @@
+-- The bridge (document 01, "The bridge" and "Numbers returned").
+--   powerOn            the state at power-on
+--   statusOf b         the status register
+--   readOf b           what a read gives
+--   writeNumber x b    the number that a write of the bytes x gives
+--   afterWrite x b     the state after that write
+--   afterTime b        the state after time has passed
+--   afterFitting x b   the state after fitting the ID of the bytes x
+--   command x b        the state after the write x and time passing
+use Prim.Native.Nat.{ℕ, zero, suc, _+_, _*_, _/_, _%_}
+use mathlib.Core.Bool.{Bool, true, false, cond}
+use mathlib.Core.List.{List, [], _∷_}
+use lib.Dec.{eqb}
+use lib.ListN.{length, getD}
+use Rattle.probe.specs.Probe.{digit}
+use Rattle.line.specs.declared.Line.{Line}
+use Rattle.line.specs.Line.{bare, level, slot, resetAll, present, afterFit}
+use Rattle.bridge.specs.declared.Pointer.{Pointer}
+use Rattle.bridge.specs.declared.Pointer.the-variants.{Status, ReadData, Configuration}
+use Rattle.bridge.specs.declared.Pending.{Pending}
+use Rattle.bridge.specs.declared.Pending.the-variants.{Nothing, Reset, SingleBit, WriteByte, ReadByte, Triplet}
+use Rattle.bridge.specs.declared.Bridge.{Bridge}
+
+-- ---- the state
+
+-- Power-on and Device Reset give RST 1, the other status bits that change 0, configuration 00h, pointer at status, nothing pending.
+abbrev pub cleared : ℕ → Line → Bridge
+cleared r l =
+    record {
+      dir = false;
+      tsb = false;
+      sbr = false;
+      rst = true;
+      ppd = false;
+      configuration = 0;
+      pointer = Status;
+      readout = r;
+      pending = Nothing;
+      line = l;
+    }
+
+-- At power-on the read-data byte is 00h and no probe is fitted.
+unfoldable pub powerOn : Bridge
+powerOn = cleared 0 bare
+
+-- 1WB: a 1-Wire command is pending.
+unfoldable pub isPending : Pending → Bool
+isPending Nothing = false
+isPending Reset = true
+isPending (SingleBit w) = true
+isPending (WriteByte x) = true
+isPending ReadByte = true
+isPending (Triplet d) = true
+
+unfoldable pub busy : Bridge → Bool
+busy b = isPending (b .pending)
+
+-- Status, bit 7 to 0: DIR, TSB, SBR, RST, LL, SD, PPD, 1WB. LL is always 1 and SD always 0.
+unfoldable pub statusOf : Bridge → ℕ
+statusOf b =
+    digit (b .dir) * 128 + digit (b .tsb) * 64 + digit (b .sbr) * 32 + digit (b .rst) * 16 + 8 + digit (b .ppd) * 2
+    + digit (busy b)
+
+-- Reading gives the register under the pointer; the configuration register reads with upper nibble 0.
+unfoldable pub registerOf : Pointer → Bridge → ℕ
+registerOf Status b = statusOf b
+registerOf ReadData b = b .readout
+registerOf Configuration b = b .configuration % 16
+
+unfoldable pub readOf : Bridge → ℕ
+readOf b = registerOf (b .pointer) b
+
+-- ---- the commands as they are accepted
+
+-- F0h Device Reset leaves the read-data byte and the line, and drops what is pending, of which the line has seen nothing.
+unfoldable pub deviceReset : Bridge → Bridge
+deviceReset b = cleared (b .readout) (b .line)
+
+-- The state with the pointer moved.
+abbrev pub pointedAt : Pointer → Bridge → Bridge
+pointedAt p b =
+    record {
+      dir = b .dir;
+      tsb = b .tsb;
+      sbr = b .sbr;
+      rst = b .rst;
+      ppd = b .ppd;
+      configuration = b .configuration;
+      pointer = p;
+      readout = b .readout;
+      pending = b .pending;
+      line = b .line;
+    }
+
+-- E1h Set Read Pointer: F0h status, E1h read data, C3h configuration.
+unfoldable pub setPointer : ℕ → Bridge → Bridge
+setPointer x b =
+    pointedAt (cond (eqb x 0xF0) Status (cond (eqb x 0xE1) ReadData Configuration)) b
+
+-- D2h Write Configuration stores the low nibble, RST becomes 0, and the pointer goes to the configuration.
+unfoldable pub configured : ℕ → Bridge → Bridge
+configured x b =
+    record {
+      dir = b .dir;
+      tsb = b .tsb;
+      sbr = b .sbr;
+      rst = false;
+      ppd = b .ppd;
+      configuration = x % 16;
+      pointer = Configuration;
+      readout = b .readout;
+      pending = b .pending;
+      line = b .line;
+    }
+
+-- The five 1-Wire commands become pending, move the pointer to status and set 1WB at once.
+unfoldable pub pended : Pending → Bridge → Bridge
+pended p b =
+    record {
+      dir = b .dir;
+      tsb = b .tsb;
+      sbr = b .sbr;
+      rst = b .rst;
+      ppd = b .ppd;
+      configuration = b .configuration;
+      pointer = Status;
+      readout = b .readout;
+      pending = p;
+      line = b .line;
+    }
+
+-- 87h and 78h use bit 7 of their parameter.
+abbrev pub topBit : ℕ → Bool
+topBit x = eqb (x / 128 % 2) 1
+
+-- The effect of a write that is accepted: its code c and its parameter x.
+unfoldable pub obeyed : ℕ → ℕ → Bridge → Bridge
+obeyed c x b =
+    cond (eqb c 0xF0) (deviceReset b)
+    (cond (eqb c 0xE1) (setPointer x b)
+    (cond (eqb c 0xD2) (configured x b)
+    (cond (eqb c 0xB4) (pended Reset b)
+    (cond (eqb c 0x87) (pended (SingleBit (topBit x)) b)
+    (cond (eqb c 0xA5) (pended (WriteByte x) b)
+    (cond (eqb c 0x96) (pended ReadByte b) (pended (Triplet (topBit x)) b)))))))
+
+-- ---- the checks of a write
+
+-- How many bytes a command has in all; 0 for a code that is none of the eight.
+unfoldable pub bytesOf : ℕ → ℕ
+bytesOf c =
+    cond (eqb c 0xF0) 1
+    (cond (eqb c 0xE1) 2
+    (cond (eqb c 0xD2) 2
+    (cond (eqb c 0xB4) 1
+    (cond (eqb c 0x87) 2
+    (cond (eqb c 0xA5) 2
+    (cond (eqb c 0x96) 1
+    (cond (eqb c 0x78) 2 0)))))))
+
+-- Device Reset and Set Read Pointer are taken while a command is pending; the others are not.
+unfoldable pub takenWhileBusy : ℕ → Bool
+takenWhileBusy c = cond (eqb c 0xF0) true (eqb c 0xE1)
+
+-- The pointer codes are F0h, E1h and C3h, the configuration bytes F0h and E1h alone; any other parameter will do.
+unfoldable pub goodParameter : ℕ → ℕ → Bool
+goodParameter c x =
+    cond (eqb c 0xE1) (cond (eqb x 0xF0) true (cond (eqb x 0xE1) true (eqb x 0xC3)))
+    (cond (eqb c 0xD2) (cond (eqb x 0xF0) true (eqb x 0xE1)) true)
+
+-- No bytes at all: 7. Then, in this order: unknown code 5, busy 6, wrong number of bytes 7, bad parameter 8.
+unfoldable pub writeNumber : List ℕ → Bridge → ℕ
+writeNumber [] b = 7
+writeNumber (c ∷ ps) b =
+    cond (eqb (bytesOf c) 0) 5
+    (cond (cond (busy b) (cond (takenWhileBusy c) false true) false) 6
+    (cond (eqb (length (c ∷ ps)) (bytesOf c)) (cond (goodParameter c (getD ps 0 0)) 0 8) 7))
+
+-- A refused write leaves the state as it was.
+unfoldable pub afterWrite : List ℕ → Bridge → Bridge
+afterWrite x b = cond (eqb (writeNumber x b) 0) (obeyed (getD x 0 0) (getD x 1 0) b) b
+
+-- ---- time passing
+
+-- What a finished command leaves: nothing pending, and pointer, configuration and RST as they were.
+abbrev pub finished : Bool → Bool → Bool → Bool → ℕ → Line → Bridge → Bridge
+finished d t s p r l b =
+    record {
+      dir = d;
+      tsb = t;
+      sbr = s;
+      rst = b .rst;
+      ppd = p;
+      configuration = b .configuration;
+      pointer = b .pointer;
+      readout = r;
+      pending = Nothing;
+      line = l;
+    }
+
+-- B4h 1-Wire Reset: PPD says whether some probe is fitted.
+unfoldable pub finishedReset : Bridge → Bridge
+finishedReset b =
+    finished (b .dir) (b .tsb) (b .sbr) (present (b .line)) (b .readout) (resetAll (b .line)) b
+
+-- 87h Single Bit: one slot; SBR is the line level.
+unfoldable pub finishedBit : Bool → Bridge → Bridge
+finishedBit w b =
+    finished (b .dir) (b .tsb) (level w (b .line)) (b .ppd) (b .readout) (slot w (b .line)) b
+
+-- n slots with the low n bits of x, low bit first.
+unfoldable pub written : ℕ → ℕ → Line → Line
+written zero x l = l
+written (suc n) x l = written n (x / 2) (slot (eqb (x % 2) 1) l)
+
+-- A5h Write Byte: eight slots, low bit first.
+unfoldable pub finishedWrite : ℕ → Bridge → Bridge
+finishedWrite x b = finished (b .dir) (b .tsb) (b .sbr) (b .ppd) (b .readout) (written 8 x (b .line)) b
+
+-- The line after n write-one slots, and their levels as a number, low bit first.
+unfoldable pub slotsOfOne : ℕ → Line → Line
+slotsOfOne zero l = l
+slotsOfOne (suc n) l = slotsOfOne n (slot true l)
+
+unfoldable pub levels : ℕ → Line → ℕ
+levels zero l = 0
+levels (suc n) l = digit (level true l) + 2 * levels n (slot true l)
+
+-- 96h Read Byte: eight write-one slots; the levels go to read data.
+unfoldable pub finishedRead : Bridge → Bridge
+finishedRead b =
+    finished (b .dir) (b .tsb) (b .sbr) (b .ppd) (levels 8 (b .line)) (slotsOfOne 8 (b .line)) b
+
+-- The bit that a triplet writes. Levels 0,0: the direction asked for; 0,1: 0; 1,0 and 1,1: 1.
+unfoldable pub chosen : Bool → Bool → Bool → Bool
+chosen first second d = cond first true (cond second false d)
+
+-- 78h Triplet: two write-one slots, then a write slot. SBR is the first level, TSB the second, DIR the bit written.
+unfoldable pub finishedTriplet : Bool → Bridge → Bridge
+finishedTriplet d b =
+    let l1 = slot true (b .line) in
+    let l2 = slot true l1 in
+    let first = level true (b .line) in
+    let second = level true l1 in
+    let w = chosen first second d in
+    finished w second first (b .ppd) (b .readout) (slot w l2) b
+
+-- Time passing with nothing pending changes nothing.
+unfoldable pub finishedOf : Pending → Bridge → Bridge
+finishedOf Nothing b = b
+finishedOf Reset b = finishedReset b
+finishedOf (SingleBit w) b = finishedBit w b
+finishedOf (WriteByte x) b = finishedWrite x b
+finishedOf ReadByte b = finishedRead b
+finishedOf (Triplet d) b = finishedTriplet d b
+
+unfoldable pub afterTime : Bridge → Bridge
+afterTime b = finishedOf (b .pending) b
+
+-- ---- fitting, and a command given its time
+
+-- The state with another line.
+abbrev pub onLine : Line → Bridge → Bridge
+onLine l b =
+    record {
+      dir = b .dir;
+      tsb = b .tsb;
+      sbr = b .sbr;
+      rst = b .rst;
+      ppd = b .ppd;
+      configuration = b .configuration;
+      pointer = b .pointer;
+      readout = b .readout;
+      pending = b .pending;
+      line = l;
+    }
+
+-- Fitting touches the line alone.
+unfoldable pub afterFitting : List ℕ → Bridge → Bridge
+afterFitting x b = onLine (afterFit x (b .line)) b
+
+unfoldable pub command : List ℕ → Bridge → Bridge
+command x b = afterTime (afterWrite x b)

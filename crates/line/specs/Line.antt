@@ -1,0 +1,82 @@
+-- The line: probes on one wire (document 01, "Probe identities", "The probes" and "Numbers returned").
+--   bare               the line with no probe
+--   fitted l           the probes on the line, in the order in which they came
+--   idsOf l            their IDs
+--   onFitted f l       the line with f done to each of them
+--   level w l          what the wire carries in a slot in which the bridge writes w
+--   slot w l           the line after that slot
+--   resetAll l         the line after a 1-Wire reset
+--   present l          some probe is fitted
+--   fitNumber x l      the number that fitting the ID of the bytes x gives
+--   afterFit x l       the line after that
+use Prim.Native.Nat.{ℕ, _+_}
+use mathlib.Core.Bool.{Bool, true, false, cond}
+use mathlib.Core.List.{List, [], _∷_, _++_, map}
+use lib.Dec.{eqb, leb, ltb}
+use lib.ListN.{take, drop, set, replicate}
+use Rattle.identity.specs.Identity.{numberOf, refusalOf}
+use Rattle.probe.specs.declared.Probe.{Probe}
+use Rattle.probe.specs.Probe.{deafNew, sends, took, reset}
+use Rattle.line.specs.declared.Line.{Line}
+
+-- Every element passes the test; some element does.
+unfoldable pub all : {A : Type 0} → (A → Bool) → List A → Bool
+all f [] = true
+all f (x ∷ xs) = cond (f x) (all f xs) false
+
+unfoldable pub any : {A : Type 0} → (A → Bool) → List A → Bool
+any f [] = false
+any f (x ∷ xs) = cond (f x) true (any f xs)
+
+unfoldable pub fitted : Line → List Probe
+fitted l = take (l .count) (l .probes)
+
+abbrev pub idOf : Probe → ℕ
+idOf p = p .id
+
+unfoldable pub idsOf : Line → List ℕ
+idsOf l = map idOf (fitted l)
+
+-- No probe is fitted; a free entry of the table is a deaf, unmarked probe of ID 0.
+unfoldable pub bare : Line
+bare = record { probes = replicate 64 (deafNew 0); count = 0 }
+
+-- Free entries stay as they are.
+unfoldable pub onFitted : (Probe → Probe) → Line → Line
+onFitted f l = record { probes = map f (fitted l) ++ drop (l .count) (l .probes); count = l .count }
+
+-- The level is 0 if the bridge writes 0 or any probe sends 0, else 1.
+unfoldable pub level : Bool → Line → Bool
+level w l = cond w (all sends (fitted l)) false
+
+-- Every probe takes the level.
+unfoldable pub slot : Bool → Line → Line
+slot w l = onFitted (took (level w l)) l
+
+unfoldable pub resetAll : Line → Line
+resetAll l = onFitted reset l
+
+unfoldable pub present : Line → Bool
+present l = ltb 0 (l .count)
+
+-- ---- fitting
+
+-- The ID is on the line already.
+unfoldable pub isFitted : ℕ → Line → Bool
+isFitted i l = any (eqb i) (idsOf l)
+
+-- An ID that is right by itself is refused with 4 if it is fitted already, then with 1 if 64 probes are there.
+unfoldable pub placeNumber : ℕ → Line → ℕ
+placeNumber i l = cond (isFitted i l) 4 (cond (leb 64 (l .count)) 1 0)
+
+-- The checks come in this order: CRC, family 00h, ID already fitted, line full.
+unfoldable pub fitNumber : List ℕ → Line → ℕ
+fitNumber x l = cond (eqb (refusalOf x) 0) (placeNumber (numberOf x) l) (refusalOf x)
+
+-- A new probe goes behind the others.
+unfoldable pub withProbe : ℕ → Line → Line
+withProbe i l = record { probes = set (l .probes) (l .count) (deafNew i); count = l .count + 1 }
+
+-- A refused fitting leaves the line as it was.
+unfoldable pub afterFit : List ℕ → Line → Line
+afterFit x l = cond (eqb (fitNumber x l) 0) (withProbe (numberOf x) l) l
