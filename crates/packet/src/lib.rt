@@ -8,7 +8,7 @@
 ghost use mathlib.Core.Path.{_≡_};
 ghost use mathlib.Core.Bool.{_&&_};
 ghost use mathlib.Core.List.{[], _∷_};
-ghost use Prim.Native.Nat.{_+_, _≤_};
+ghost use Prim.Native.Nat.{_+_, _-_, _≤_};
 ghost use lib.ListN.{length, getD, take};
 ghost use Rattle.packet.specs.Buffer.{over, placed};
 ghost use Rattle.packet.specs.Request.{write, read, writeRead, goodAddress, goodCount, numberFor, formNumber, formed, sealOf, packetOf};
@@ -179,4 +179,172 @@ pub fn form_write_read(address: u32, data: &[u8], count: u32, buffer: &mut [u8])
         lay_write_read(address, data, count, buffer);
     }
     number
+}
+
+// ---- reading
+
+// The byte at a place; past the end, 0.
+fn byte_at(packet: &[u8], place: usize) -> usize
+    ensures { λ r. ⌜ r ≡ getD (now (packet .entry)) place 0 ⌝ }
+    ensures { λ r. ⌜ r ≤ 255 ⌝ }
+{
+    if place < packet.len() {
+        packet[place] as usize
+    } else {
+        0
+    }
+}
+
+fn write_form(packet: &[u8]) -> Reading
+    ensures { λ r. ⌜ r ≡ writeForm (now (packet .entry)) ⌝ }
+{
+    let address = byte_at(packet, 1);
+    let len = byte_at(packet, 2);
+    if address % 2 == 0 {
+        if 1 <= len {
+            if packet.len() == len + 5 {
+                return Reading::Parts {
+                    code: WRITE,
+                    address: (address / 2) as u8,
+                    start: 3,
+                    len,
+                    count: 0,
+                };
+            }
+        }
+    }
+    Reading::Refused {
+        number: REFUSED_FORM,
+    }
+}
+
+fn read_form(packet: &[u8]) -> Reading
+    ensures { λ r. ⌜ r ≡ readForm (now (packet .entry)) ⌝ }
+{
+    let address = byte_at(packet, 1);
+    let count = byte_at(packet, 2);
+    if address % 2 == 1 {
+        if 1 <= count {
+            if packet.len() == 5 {
+                return Reading::Parts {
+                    code: READ,
+                    address: (address / 2) as u8,
+                    start: 0,
+                    len: 0,
+                    count: count as u8,
+                };
+            }
+        }
+    }
+    Reading::Refused {
+        number: REFUSED_FORM,
+    }
+}
+
+fn write_read_form(packet: &[u8]) -> Reading
+    ensures { λ r. ⌜ r ≡ writeReadForm (now (packet .entry)) ⌝ }
+{
+    let address = byte_at(packet, 1);
+    let len = byte_at(packet, 2);
+    let count = byte_at(packet, len + 3);
+    if address % 2 == 0 {
+        if 1 <= len {
+            if packet.len() == len + 6 {
+                if 1 <= count {
+                    return Reading::Parts {
+                        code: WRITE_READ,
+                        address: (address / 2) as u8,
+                        start: 3,
+                        len,
+                        count: count as u8,
+                    };
+                }
+            }
+        }
+    }
+    Reading::Refused {
+        number: REFUSED_FORM,
+    }
+}
+
+fn form_of(packet: &[u8]) -> Reading
+    ensures { λ r. ⌜ r ≡ formOf (now (packet .entry)) ⌝ }
+{
+    let code = byte_at(packet, 0);
+    if code == WRITE as usize {
+        return write_form(packet);
+    }
+    if code == READ as usize {
+        return read_form(packet);
+    }
+    if code == WRITE_READ as usize {
+        return write_read_form(packet);
+    }
+    Reading::Refused {
+        number: REFUSED_FORM,
+    }
+}
+
+// Where the checksum stands.
+fn seal_place(packet: &[u8]) -> usize
+    ensures { λ r. ⌜ r ≡ length (now (packet .entry)) - 2 ⌝ }
+{
+    if 2 <= packet.len() {
+        packet.len() - 2
+    } else {
+        0
+    }
+}
+
+fn is_sealed(packet: &[u8]) -> bool
+    ensures { λ r. ⌜ r ≡ isSealed (now (packet .entry)) ⌝ }
+{
+    let place = seal_place(packet);
+    let inverted = 65535 - checksum::crc16(&packet[..place]);
+    if byte_at(packet, place) == (inverted % 256) as usize {
+        byte_at(packet, place + 1) == (inverted / 256) as usize
+    } else {
+        false
+    }
+}
+
+// Takes any bytes apart: the parts, or 13, or 14.
+pub fn read(packet: &[u8]) -> Reading
+    ensures { λ r. ⌜ r ≡ readingOf (now (packet .entry)) ⌝ }
+{
+    let form = form_of(packet);
+    let Reading::Parts {
+        code: _,
+        address: _,
+        start: _,
+        len: _,
+        count: _,
+    } = form
+    else {
+        return form;
+    };
+    if is_sealed(packet) {
+        form
+    } else {
+        Reading::Refused {
+            number: REFUSED_CRC,
+        }
+    }
+}
+
+// The write data of a packet, as that part of it; empty for 87h and for a refused packet.
+pub fn data_of(packet: &[u8]) -> &[u8]
+    ensures { λ r. ⌜ now r ≡ dataIn (readingOf (now (packet .entry))) (now (packet .entry)) ⌝ }
+{
+    let Reading::Parts {
+        code: _,
+        address: _,
+        start,
+        len,
+        count: _,
+    } = read(packet)
+    else {
+        return &packet[..0];
+    };
+    &packet[start..start + len]
 }

@@ -1,0 +1,47 @@
+-- `packet::read_form` meets its contract: at each `return` the tests that led there say which case of `readForm` holds.
+use borrow.Author.Tests.{eq-eqb, ne-eqb, le-leb, lt-leb}
+use Rattle.packet.specs.Reading.{readForm}
+use borrow.Author.Needs.{needs}
+use Rattle.packet.proofs.read_form.Statement.{statement}
+use Rattle.packet.proofs.read_form.Tie as tie
+
+byte-at-requires : tie.Need-byte-at-requires
+byte-at-requires c κs = search needs
+
+byte-at-requires-2 : tie.Need-byte-at-requires-2
+byte-at-requires-2 c κs = search needs
+
+cast-t10 : tie.Need-cast-t10
+cast-t10 c = search needs
+
+cast-t11 : tie.Need-cast-t11
+cast-t11 c = search needs
+
+returns : tie.Need-returns
+unfolding readForm
+returns c = simp (← c .before .before .before .before .byte-at .ensures .0, ← c .before .before .before .byte-at2 .ensures .0, eq-eqb _ _ (c .before .before .if1 .taken), le-leb _ _ (c .before .if2 .taken), eq-eqb _ _ (c .if3 .taken))
+
+returns-2 : tie.Need-returns-2
+unfolding readForm
+returns-2 c = simp (← c .before .before .before .before .byte-at .ensures .0, ← c .before .before .before .byte-at2 .ensures .0, eq-eqb _ _ (c .before .before .if1 .taken), le-leb _ _ (c .before .if2 .taken), ne-eqb _ _ (c .if3 .left))
+
+returns-3 : tie.Need-returns-3
+unfolding readForm
+returns-3 c = simp (← c .before .before .before .byte-at .ensures .0, ← c .before .before .byte-at2 .ensures .0, eq-eqb _ _ (c .before .if1 .taken), lt-leb _ _ (c .if2 .left))
+
+returns-4 : tie.Need-returns-4
+unfolding readForm
+returns-4 c = simp (← c .before .before .byte-at .ensures .0, ← c .before .byte-at2 .ensures .0, ne-eqb _ _ (c .if1 .left))
+
+pub read-form-spec : {M : Type 1} → statement M
+read-form-spec =
+    tie.close
+    (tie.spec
+    byte-at-requires
+    byte-at-requires-2
+    cast-t10
+    cast-t11
+    returns
+    returns-2
+    returns-3
+    returns-4)
