@@ -7,6 +7,7 @@
 --   numberOf r        the number of an answer of the reader: 0 for the parts
 --   dataIn r p        the write data that an answer tells of, as that part of the packet p
 --   partsOf q         the parts that stand for the request q
+--   requestIn r p     the request that the parts r of the packet p stand for
 use Prim.Native.Nat.{ℕ, _+_, _-_, _/_, _%_}
 use mathlib.Core.Bool.{Bool, true, false, cond, _&&_}
 use mathlib.Core.List.{List, []}
@@ -74,7 +75,7 @@ readingOf p = checked (isSealed p) (formOf p)
 -- ---- what an answer of the reader means
 
 -- The paper's number of an answer.
-unfoldable pub numberOf : Reading → ℕ
+abbrev pub numberOf : Reading → ℕ
 numberOf (Parts c a b l r) = 0
 numberOf (Refused n) = n
 
@@ -88,3 +89,9 @@ unfoldable pub partsOf : Request → Reading
 partsOf (write a d) = Parts 0x4B a 3 (length d) 0
 partsOf (read a r) = Parts 0x87 a 0 0 r
 partsOf (writeRead a d r) = Parts 0x2D a 3 (length d) r
+
+-- The request that the parts of a packet p stand for; what a refused packet would stand for is never asked.
+unfoldable pub requestIn : Reading → List ℕ → Request
+requestIn (Parts c a b l r) p =
+    cond (eqb c 0x4B) (write a (take l (drop b p))) (cond (eqb c 0x87) (read a r) (writeRead a (take l (drop b p)) r))
+requestIn (Refused n) p = read 0 0

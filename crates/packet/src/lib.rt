@@ -12,7 +12,7 @@ ghost use Prim.Native.Nat.{_+_, _-_, _≤_};
 ghost use lib.ListN.{length, getD, take};
 ghost use Rattle.packet.specs.Buffer.{over, placed};
 ghost use Rattle.packet.specs.Request.{write, read, writeRead, goodAddress, goodCount, numberFor, formNumber, formed, sealOf, packetOf};
-ghost use Rattle.packet.specs.Reading.{writeForm, readForm, writeReadForm, formOf, isSealed, readingOf, dataIn};
+ghost use Rattle.packet.specs.Reading.{writeForm, readForm, writeReadForm, formOf, isSealed, readingOf, numberOf, dataIn};
 
 pub const WRITE: u8 = 0x4B;
 
@@ -43,6 +43,24 @@ pub enum Reading {
     Refused {
         number: u8,
     },
+}
+
+impl Reading {
+    // The paper's number of the answer: 0 for the parts.
+    pub fn number(self) -> u8
+        ensures { λ r. ⌜ r ≡ numberOf self ⌝ }
+    {
+        match self {
+            Reading::Parts {
+                code: _,
+                address: _,
+                start: _,
+                len: _,
+                count: _,
+            } => DONE,
+            Reading::Refused { number } => number,
+        }
+    }
 }
 
 // ---- forming

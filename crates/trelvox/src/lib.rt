@@ -1,5 +1,12 @@
+// What the firmware links: forming and the two checksums under C names (document 01, "Packets").
+//
+// Each function is the library's own, with the same arguments in the same order; a slice is a pointer and then a length. include/trelvox.h
+// declares them.
+//
+// Worked example: trelvox_form_read(0x20, 2, buffer, 5) returns 0 and leaves 87 41 02 FE 47 in the buffer.
 ghost use mathlib.Core.Path.{_≡_};
 ghost use Rattle.checksum.specs.Register.{crc8Of, crc16Of};
+ghost use Rattle.packet.specs.Request.{write, read, writeRead, formNumber, formed};
 
 #[no_mangle]
 pub extern "C" fn trelvox_crc8(bytes: &[u8]) -> u8
@@ -13,4 +20,33 @@ pub extern "C" fn trelvox_crc16(bytes: &[u8]) -> u16
     ensures { λ r. ⌜ r ≡ crc16Of (now (bytes .entry)) ⌝ }
 {
     checksum::crc16(bytes)
+}
+
+#[no_mangle]
+pub extern "C" fn trelvox_form_write(address: u32, data: &[u8], buffer: &mut [u8]) -> u8
+    ensures { λ r. ⌜ r ≡ formNumber (write address (now («data» .entry))) (now (buffer .entry)) ⌝ }
+    ensures { λ _. ⌜ now (buffer .exit) ≡ formed (write address (now («data» .entry))) (now (buffer .entry)) ⌝ }
+{
+    packet::form_write(address, data, buffer)
+}
+
+#[no_mangle]
+pub extern "C" fn trelvox_form_read(address: u32, count: u32, buffer: &mut [u8]) -> u8
+    ensures { λ r. ⌜ r ≡ formNumber (read address count) (now (buffer .entry)) ⌝ }
+    ensures { λ _. ⌜ now (buffer .exit) ≡ formed (read address count) (now (buffer .entry)) ⌝ }
+{
+    packet::form_read(address, count, buffer)
+}
+
+#[no_mangle]
+pub extern "C" fn trelvox_form_write_read(
+    address: u32,
+    data: &[u8],
+    count: u32,
+    buffer: &mut [u8],
+) -> u8
+    ensures { λ r. ⌜ r ≡ formNumber (writeRead address (now («data» .entry)) count) (now (buffer .entry)) ⌝ }
+    ensures { λ _. ⌜ now (buffer .exit) ≡ formed (writeRead address (now («data» .entry)) count) (now (buffer .entry)) ⌝ }
+{
+    packet::form_write_read(address, data, count, buffer)
 }

@@ -1,0 +1,34 @@
+// Reading under a C name, for the tests and the benchmark alone; the firmware's archive does not have it.
+//
+// The five parts are the code, the address, where the data starts, how long it is, and R; all are 0 for a refused packet.
+ghost use mathlib.Core.Path.{_≡_};
+ghost use Rattle.packet.specs.Reading.{readingOf, numberOf};
+ghost use Rattle.trial.specs.Trial.{numbersOf};
+use packet::Reading;
+
+#[no_mangle]
+pub extern "C" fn trial_read(packet: &[u8], parts: &mut [u64; 5]) -> u8
+    ensures { λ r. ⌜ r ≡ numberOf (readingOf (now (packet .entry))) ⌝ }
+    ensures { λ _. ⌜ now (parts .exit) ≡ numbersOf (readingOf (now (packet .entry))) ⌝ }
+{
+    let reading = packet::read(packet);
+    let Reading::Parts {
+        code,
+        address,
+        start,
+        len,
+        count,
+    } = reading
+    else {
+        *parts = [0, 0, 0, 0, 0];
+        return reading.number();
+    };
+    *parts = [
+        code as u64,
+        address as u64,
+        start as u64,
+        len as u64,
+        count as u64,
+    ];
+    0
+}
