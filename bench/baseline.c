@@ -1,0 +1,98 @@
+#include "baseline.h"
+
+#include <string.h>
+
+static uint8_t table8[256];
+static uint16_t table16[256];
+
+void baseline_start(void)
+{
+    for (unsigned i = 0; i < 256; i++) {
+        unsigned crc8 = i, crc16 = i;
+        for (int bit = 0; bit < 8; bit++) {
+            crc8 = crc8 & 1 ? (crc8 >> 1) ^ 0x8C : crc8 >> 1;
+            crc16 = crc16 & 1 ? (crc16 >> 1) ^ 0xA001 : crc16 >> 1;
+        }
+        table8[i] = (uint8_t)crc8;
+        table16[i] = (uint16_t)crc16;
+    }
+}
+
+uint8_t baseline_crc8(const uint8_t *bytes, size_t length)
+{
+    uint8_t crc = 0;
+    for (size_t i = 0; i < length; i++)
+        crc = table8[crc ^ bytes[i]];
+    return crc;
+}
+
+uint16_t baseline_crc16(const uint8_t *bytes, size_t length)
+{
+    unsigned crc = 0;
+    for (size_t i = 0; i < length; i++)
+        crc = (crc >> 8) ^ table16[(crc ^ bytes[i]) & 0xFF];
+    return (uint16_t)crc;
+}
+
+/* ---- Packets --------------------------------------------------------------------------------- */
+
+uint8_t baseline_form_write_read(uint32_t address, const uint8_t *data, size_t data_length,
+                                 uint32_t count, uint8_t *buffer, size_t buffer_length)
+{
+    if (address > 127 || data_length - 1 > 254 || count - 1 > 254)
+        return 11;
+    if (buffer_length < data_length + 6)
+        return 12;
+    buffer[0] = 0x2D;
+    buffer[1] = (uint8_t)(address << 1);
+    buffer[2] = (uint8_t)data_length;
+    memcpy(buffer + 3, data, data_length);
+    buffer[data_length + 3] = (uint8_t)count;
+    uint16_t sent = (uint16_t)~baseline_crc16(buffer, data_length + 4);
+    buffer[data_length + 4] = (uint8_t)sent;
+    buffer[data_length + 5] = (uint8_t)(sent >> 8);
+    return 0;
+}
+
+/* The length that a packet of this form has, 0 where it is of none. */
+static size_t length_of_form(const uint8_t *packet)
+{
+    int odd = packet[1] & 1;
+    if (packet[2] == 0)
+        return 0;
+    switch (packet[0]) {
+    case 0x4B:
+        return odd ? 0 : (size_t)packet[2] + 5;
+    case 0x87:
+        return odd ? 5 : 0;
+    case 0x2D:
+        return odd ? 0 : (size_t)packet[2] + 6;
+    default:
+        return 0;
+    }
+}
+
+static void set_parts(const uint8_t *packet, size_t length, uint64_t *parts)
+{
+    int has_data = packet[0] != 0x87;
+    parts[0] = packet[0];
+    parts[1] = packet[1] >> 1;
+    parts[2] = has_data ? 3 : 0;
+    parts[3] = has_data ? packet[2] : 0;
+    parts[4] = packet[0] == 0x4B ? 0 : packet[length - 3];
+}
+
+uint8_t baseline_read(const uint8_t *packet, size_t length, uint64_t *parts)
+{
+    memset(parts, 0, 5 * sizeof *parts);
+    if (length < 5 || length_of_form(packet) != length)
+        return 13;
+    if (packet[0] == 0x2D && packet[length - 3] == 0)
+        return 13;
+    uint16_t sent = (uint16_t)(packet[length - 2] | packet[length - 1] << 8);
+    uint16_t wanted = (uint16_t)~baseline_crc16(packet, length - 2);
+    if (wanted != sent)
+        return 14;
+    set_parts(packet, length, parts);
+    return 0;
+}
