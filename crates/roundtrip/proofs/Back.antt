@@ -1,0 +1,126 @@
+-- Reading a packet just formed gives the request that made it.
+--   sealed-true     a body with its checksum behind it is sealed
+--   back            the reader's answer for the packet of a request within its limits
+--   back-formed     the same of what forming leaves at the front of a buffer
+--   back-refused    a request that is refused
+--   fits-formed     the packet fits the buffer that it was formed in
+use mathlib.Core.Path.{_≡_, refl, sym, ap, ap₂, subst, _∙_}
+use mathlib.Core.Bool.{Bool, true, false, cond, _&&_}
+use mathlib.Core.List.{List, [], _∷_, _++_, append-assoc}
+use Prim.Native.Nat.{ℕ, suc, _+_, _-_, _*_, _/_, _%_, _≤_}
+use native.Mathlib.Nat.{add-zero}
+use native.Mathlib.Omega.{arith}
+use borrow.Author.Tests.{eq-eqb, ne-eqb, le-leb}
+use lib.Dec.{eqb, leb}
+use lib.ListN.{length, getD, take, drop, length-append}
+use lib.Seq.{take-append-seam, getD-append-seam, getD-append-add, take-append-le}
+use Rattle.packet.specs.declared.Reading.{Reading}
+use Rattle.packet.specs.declared.Reading.the-variants.{Parts, Refused}
+use Rattle.packet.specs.Request.{Request, write, read, writeRead, bodyOf, invertedOf, sealOf, packetOf, goodAddress, goodCount, inLimits, formNumber, formed}
+use Rattle.packet.specs.Reading.{noForm, writeForm, readForm, writeReadForm, formOf, isSealed, checked, readingOf, partsOf}
+use Rattle.packet.specs.Buffer.{over}
+use Rattle.packet.proofs.Limits.{left-true, right-true, count-of, good-of, room-of}
+use Rattle.packet.proofs.Buffer.{take-over}
+use Rattle.roundtrip.specs.RoundTrip.{readBack}
+use Rattle.packet.proofs.Forming.{length-write, length-read, length-writeRead}
+
+-- ---- the checksum
+
+pub sealed-true : (s : List ℕ) → isSealed (s ++ sealOf s) ≡ true
+unfolding isSealed sealOf
+sealed-true s =
+    let p : List ℕ = s ++ sealOf s in
+    let low : ℕ = invertedOf s % 256 in
+    let high : ℕ = invertedOf s / 256 in
+    let at : length p - 2 ≡ length s = omega (arith, length-append s (sealOf s)) in
+    let front : take (length s) p ≡ s = take-append-seam s (sealOf s) in
+    let first : getD p (length s) 0 ≡ low = getD-append-seam s low (high ∷ []) 0 in
+    let second : getD p (length s + 1) 0 ≡ high = getD-append-add s (sealOf s) 1 0 in
+    simp (at, front, first, second, eq-eqb low low refl, eq-eqb high high refl)
+
+-- ---- the form
+
+-- an even address byte
+even : (a : ℕ) → eqb (a * 2 % 2) 0 ≡ true
+even a = eq-eqb (a * 2 % 2) 0 (omega arith)
+
+odd : (a : ℕ) → eqb ((a * 2 + 1) % 2) 1 ≡ true
+odd a = eq-eqb ((a * 2 + 1) % 2) 1 (omega arith)
+
+half : (a : ℕ) → a * 2 / 2 ≡ a
+half a = omega arith
+
+half-odd : (a : ℕ) → (a * 2 + 1) / 2 ≡ a
+half-odd a = omega arith
+
+form-write : (a : ℕ) (s : List ℕ) → goodCount (length s) ≡ true → formOf (packetOf (write a s)) ≡ partsOf (write a s)
+unfolding formOf writeForm partsOf packetOf bodyOf
+form-write a s g =
+    simp
+    (even a, half a, le-leb 1 (length s) (count-of (length s) g .0), eq-eqb (length (packetOf (write a s))) (length s + 5) (length-write a s))
+
+form-read : (a r : ℕ) → goodCount r ≡ true → formOf (packetOf (read a r)) ≡ partsOf (read a r)
+unfolding formOf readForm partsOf packetOf bodyOf sealOf
+form-read a r g = simp (odd a, half-odd a, le-leb 1 r (count-of r g .0))
+
+-- R stands behind the data
+last-count : (a : ℕ) (s : List ℕ) (r : ℕ) → getD (packetOf (writeRead a s r)) (length s + 3) 0 ≡ r
+unfolding packetOf bodyOf
+last-count a s r =
+    let h : List ℕ = 0x2D ∷ (a * 2) ∷ length s ∷ s in
+    let t : List ℕ = sealOf (bodyOf (writeRead a s r)) in
+    let at : length s + 3 ≡ length h = omega arith in
+    ap (λ (k : ℕ). getD ((h ++ (r ∷ [])) ++ t) k 0) at ∙ ap (λ (l : List ℕ). getD l (length h) 0) (append-assoc h (r ∷ []) t)
+    ∙ getD-append-seam h r t 0
+
+form-writeRead : (a : ℕ) (s : List ℕ) (r : ℕ) → goodCount (length s) ≡ true → goodCount r ≡ true → formOf (packetOf (writeRead a s r)) ≡ partsOf (writeRead a s r)
+unfolding formOf writeReadForm partsOf packetOf bodyOf
+form-writeRead a s r g f =
+    simp
+    (even a, half a, le-leb 1 (length s) (count-of (length s) g .0), eq-eqb (length (packetOf (writeRead a s r))) (length s + 6) (length-writeRead a s r), last-count a s r, le-leb 1 r (count-of r f .0))
+
+form-of : (q : Request) → inLimits q ≡ true → formOf (packetOf q) ≡ partsOf q
+unfolding inLimits
+form-of (write a s) g = form-write a s (right-true (goodAddress a) (goodCount (length s)) g)
+form-of (read a r) g = form-read a r (right-true (goodAddress a) (goodCount r) g)
+form-of (writeRead a s r) g =
+    let t : Bool = goodAddress a && goodCount (length s) in
+    form-writeRead a s r (right-true (goodAddress a) (goodCount (length s)) (left-true t (goodCount r) g))
+    (right-true t (goodCount r) g)
+
+-- ---- the answer
+
+checked-parts : (q : Request) → checked true (partsOf q) ≡ partsOf q
+unfolding checked partsOf
+checked-parts (write a s) = refl
+checked-parts (read a r) = refl
+checked-parts (writeRead a s r) = refl
+
+pub back : (q : Request) → inLimits q ≡ true → readingOf (packetOf q) ≡ partsOf q
+unfolding readingOf packetOf
+back q g = ap₂ checked (sealed-true (bodyOf q)) (form-of q g) ∙ checked-parts q
+
+-- ---- what forming leaves in a buffer
+
+formed-is : (q : Request) (d : List ℕ) → formNumber q d ≡ 0 → formed q d ≡ over (packetOf q) d
+unfolding formed
+formed-is q d z = ap (λ (t : Bool). cond t (over (packetOf q) d) d) (eq-eqb (formNumber q d) 0 z)
+
+pub fits-formed : (q : Request) (d : List ℕ) → formNumber q d ≡ 0 → length (packetOf q) ≤ length d
+unfolding formNumber
+fits-formed q d z = room-of (inLimits q) (length (packetOf q)) (length d) z
+
+pub back-formed : (q : Request) (d : List ℕ) (n : ℕ) → length (packetOf q) ≡ n → formNumber q d ≡ 0 → readingOf (take n (formed q d)) ≡ readBack q d
+unfolding readBack formNumber
+back-formed q d n h z =
+    ap (λ (l : List ℕ). readingOf (take n l)) (formed-is q d z)
+    ∙ ap (λ (k : ℕ). readingOf (take k (over (packetOf q) d))) (sym h)
+    ∙ ap readingOf (take-over (packetOf q) d)
+    ∙ back q (good-of (inLimits q) (length (packetOf q)) (length d) z)
+    ∙ sym (ap (λ (t : Bool). cond t (partsOf q) (Refused (formNumber q d))) (eq-eqb (formNumber q d) 0 z))
+
+pub back-refused : (q : Request) (d : List ℕ) (n : ℕ) → n ≡ formNumber q d → (n ≡ 0 → ⊥) → Refused n ≡ readBack q d
+unfolding readBack
+back-refused q d n e h =
+    ap (λ (k : ℕ). Refused k) e
+    ∙ sym (ap (λ (t : Bool). cond t (partsOf q) (Refused (formNumber q d))) (ne-eqb (formNumber q d) 0 (λ z. h (e ∙ z))))

@@ -1,0 +1,34 @@
+-- Forming and reading one after the other (demand 2).
+--   readBack q d       what reading gives of the packet that forming q in the buffer d gives
+--   againNumber p d    the number that forming the parts of the packet p in the buffer d gives
+--   formedAgain p d    the buffer afterwards
+use Prim.Native.Nat.{ℕ}
+use mathlib.Core.Bool.{cond}
+use mathlib.Core.List.{List}
+use lib.Dec.{eqb, leb}
+use lib.ListN.{length}
+use Rattle.packet.specs.declared.Reading.{Reading}
+use Rattle.packet.specs.declared.Reading.the-variants.{Parts, Refused}
+use Rattle.packet.specs.Buffer.{over}
+use Rattle.packet.specs.Request.{Request, formNumber}
+use Rattle.packet.specs.Reading.{readingOf, partsOf}
+
+-- Reading a packet just formed gives the request that made it; a refused request is refused with the number that forming gave.
+unfoldable pub readBack : Request → List ℕ → Reading
+readBack q d = cond (eqb (formNumber q d) 0) (partsOf q) (Refused (formNumber q d))
+
+-- A packet that is not accepted keeps its number; one that is needs a buffer as long as itself.
+unfoldable pub againFor : Reading → ℕ → ℕ → ℕ
+againFor (Parts c a b l r) wanted room = cond (leb wanted room) 0 12
+againFor (Refused n) wanted room = n
+
+unfoldable pub againNumber : List ℕ → List ℕ → ℕ
+againNumber p d = againFor (readingOf p) (length p) (length d)
+
+-- Forming the parts of an accepted packet, in a buffer long enough, gives its bytes; the bytes behind stay. Otherwise no byte changes.
+unfoldable pub againIn : Reading → List ℕ → List ℕ → List ℕ
+againIn (Parts c a b l r) p d = cond (leb (length p) (length d)) (over p d) d
+againIn (Refused n) p d = d
+
+unfoldable pub formedAgain : List ℕ → List ℕ → List ℕ
+formedAgain p d = againIn (readingOf p) p d
