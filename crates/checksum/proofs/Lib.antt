@@ -1,3 +1,4 @@
 pub mod Xor
 pub mod Shift
 pub mod Table
+pub mod Unique

@@ -2,3 +2,4 @@ pub mod Buffer
 pub mod Limits
 pub mod Forming
 pub mod Taken
+pub mod Unique

@@ -1,0 +1,20 @@
+-- Each contract leaves one answer, and one content of the lent buffer, for each argument.
+use mathlib.Core.Path.{_≡_, sym, _∙_}
+use denote.Ref.{now}
+use Rattle.checksum.proofs.Unique.{OneAnswerAnd}
+use Rattle.roundtrip.proofs.read_back_write.Reads as read-back-write
+use Rattle.roundtrip.proofs.read_back_read.Reads as read-back-read
+use Rattle.roundtrip.proofs.read_back_write_read.Reads as read-back-write-read
+use Rattle.roundtrip.proofs.form_again.Reads as form-again
+
+pub one-read-back-write : OneAnswerAnd read-back-write.Post (λ κ s. now (s .1 .1 .0))
+one-read-back-write κ a x y s t p q = (p .0 ∙ sym (q .0), p .1 ∙ sym (q .1))
+
+pub one-read-back-read : OneAnswerAnd read-back-read.Post (λ κ s. now (s .1 .1 .0))
+one-read-back-read κ a x y s t p q = (p .0 ∙ sym (q .0), p .1 ∙ sym (q .1))
+
+pub one-read-back-write-read : OneAnswerAnd read-back-write-read.Post (λ κ s. now (s .1 .1 .1 .0))
+one-read-back-write-read κ a x y s t p q = (p .0 ∙ sym (q .0), p .1 ∙ sym (q .1))
+
+pub one-form-again : OneAnswerAnd form-again.Post (λ κ s. now (s .1 .0))
+one-form-again κ a x y s t p q = (p .0 ∙ sym (q .0), p .1 ∙ sym (q .1))
