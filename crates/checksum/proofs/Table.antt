@@ -1,33 +1,20 @@
--- A table's rule: one test that antt computes over the whole table, carried to each entry.
---   follows f i t    the entries of t are f of their places, counted from i
---   entry            so the entry at k is f of k
-use mathlib.Core.Path.{_≡_, sym, ap, subst, _∙_}
-use mathlib.Core.Bool.{Bool, true, false, cond}
-use mathlib.Core.List.{List, [], _∷_}
+-- A table's rule, carried to each entry. That a constant array is the whole table is one equation, which antt computes.
+--   entry    the entry at k is the register after the byte k
+use mathlib.Core.Path.{_≡_, refl, sym, ap, _∙_}
+use mathlib.Core.List.{List}
 use Prim.Native.Nat.{ℕ, zero, suc, _+_, _<_}
 use native.Mathlib.Nat.{zero-add, add-zero, add-suc, suc-add}
 use native.Mathlib.Omega.{arith}
-use lib.Dec.{T, eqb, eqb→eq}
-use lib.ListN.{length, getD}
+use lib.ListN.{getD}
+use Rattle.checksum.specs.Register.{entered, entries, tableOf}
 
-abbrev pub follows : (ℕ → ℕ) → ℕ → List ℕ → Bool
-follows f i [] = true
-follows f i (x ∷ xs) = cond (eqb x (f i)) (follows f (suc i) xs) false
+from : (p n i k : ℕ) → k < n → getD (entries p n i) k 0 ≡ entered p 0 (i + k)
+unfolding entries
+from p zero i k h = absurd (omega arith)
+from p (suc n) i zero h = ap (entered p 0) (sym (add-zero i))
+from p (suc n) i (suc k) h =
+    from p n (suc i) k (omega arith) ∙ ap (entered p 0) (suc-add i k ∙ sym (add-suc i k))
 
-first-of : (t u : Bool) → T (cond t u false) → T t
-first-of true u h = tt
-first-of false u h = h
-
-rest-of : (t u : Bool) → T (cond t u false) → T u
-rest-of true u h = h
-rest-of false u h = absurd h
-
-from : (f : ℕ → ℕ) (t : List ℕ) (i : ℕ) → T (follows f i t) → (k : ℕ) → k < length t → getD t k 0 ≡ f (i + k)
-from f [] i h k b = absurd (omega arith)
-from f (x ∷ xs) i h zero b =
-    eqb→eq x (f i) (first-of (eqb x (f i)) (follows f (suc i) xs) h) ∙ ap f (sym (add-zero i))
-from f (x ∷ xs) i h (suc k) b =
-    from f xs (suc i) (rest-of (eqb x (f i)) (follows f (suc i) xs) h) k (omega arith) ∙ ap f (suc-add i k ∙ sym (add-suc i k))
-
-pub entry : (f : ℕ → ℕ) (t : List ℕ) (k : ℕ) → follows f 0 t ≡ true → k < length t → getD t k 0 ≡ f k
-entry f t k h b = from f t 0 (subst T (sym h) tt) k b ∙ ap f (zero-add k)
+pub entry : (p : ℕ) (t : List ℕ) → t ≡ tableOf p → (k : ℕ) → k < 256 → getD t k 0 ≡ entered p 0 k
+unfolding tableOf
+entry p t e k h = ap (λ (l : List ℕ). getD l k 0) e ∙ from p 256 0 k h ∙ ap (entered p 0) (zero-add k)

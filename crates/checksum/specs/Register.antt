@@ -2,17 +2,15 @@
 --   taps w ts        the places of a register of w bits that the terms ts of its polynomial feed
 --   shifted p r b    the register r after the bit b has gone in
 --   entered p r x    the register r after the eight bits of the byte x have gone in, low bit first
---   TableOf p t      t is the table by which a byte goes in at once
+--   tableOf p        the table of 256 entries by which a byte goes in at once
 --   crcFrom p r s    the register r after every byte of s has gone in
 --   crc8Of s         the CRC-8 of s
 --   crc16Of s        the CRC-16 of s, not inverted
-use Prim.Native.Nat.{ℕ, zero, suc, _+_, _-_, _/_, _%_, _^_, _<_}
+use Prim.Native.Nat.{ℕ, zero, suc, _+_, _-_, _/_, _%_, _^_}
 use mathlib.Core.Bool.{cond}
 use mathlib.Core.List.{List, [], _∷_}
 use lib.Bits.{bitXor}
 use lib.Dec.{eqb}
-use lib.ListN.{getD}
-use mathlib.Core.Path.{_≡_}
 
 -- A register is moved towards its low bit, so the term of power t stands t places below its top bit. The highest term is the feedback
 -- itself and has no place.
@@ -40,9 +38,13 @@ shifts p (suc n) r x = shifts p n (shifted p r (x % 2)) (x / 2)
 unfoldable pub entered : ℕ → ℕ → ℕ → ℕ
 entered p r x = shifts p 8 r x
 
--- A table of 256 entries for the taps p: entry k is what a register of zero becomes when the byte k goes in.
-abbrev pub TableOf : ℕ → List ℕ → Type 0
-TableOf p t = (k : ℕ) → k < 256 → getD t k 0 ≡ entered p 0 k
+-- n entries of a table for the taps p, from the entry i on: entry k is what a register of zero becomes when the byte k goes in.
+unfoldable pub entries : ℕ → ℕ → ℕ → List ℕ
+entries p zero i = []
+entries p (suc n) i = entered p 0 i ∷ entries p n (suc i)
+
+unfoldable pub tableOf : ℕ → List ℕ
+tableOf p = entries p 256 0
 
 unfoldable pub crcFrom : ℕ → ℕ → List ℕ → ℕ
 crcFrom p r [] = r

@@ -8,12 +8,12 @@
 mod tables;
 
 ghost use mathlib.Core.Path.{_≡_};
-ghost use Rattle.checksum.specs.Register.{crc8Of, crc16Of, taps8, taps16, entered, TableOf};
+ghost use Rattle.checksum.specs.Register.{crc8Of, crc16Of, taps8, taps16, entered, tableOf};
 
 // A constant array is laid out anew where it is used, so each table is lent once for a whole slice and not once for a byte.
 
 fn next8(table: &[u8; 256], register: u8, byte: u8) -> u8
-    requires { ⌜ TableOf taps8 (now table) ⌝ }
+    requires { ⌜ now table ≡ tableOf taps8 ⌝ }
     ensures { λ r. ⌜ r ≡ entered taps8 register byte ⌝ }
 {
     let k = register ^ byte;
@@ -22,7 +22,7 @@ fn next8(table: &[u8; 256], register: u8, byte: u8) -> u8
 
 // The register of the CRC-16 is carried in 32 bits: narrower sums cost more on the machines that run this.
 fn next16(table: &[u16; 256], register: u32, byte: u8) -> u32
-    requires { ⌜ TableOf taps16 (now table) ⌝ }
+    requires { ⌜ now table ≡ tableOf taps16 ⌝ }
     ensures { λ r. ⌜ r ≡ entered taps16 register byte ⌝ }
 {
     let k = (register % 256) as u8 ^ byte;
@@ -30,7 +30,7 @@ fn next16(table: &[u16; 256], register: u32, byte: u8) -> u32
 }
 
 fn through8(table: &[u8; 256], bytes: &[u8]) -> u8
-    requires { ⌜ TableOf taps8 (now table) ⌝ }
+    requires { ⌜ now table ≡ tableOf taps8 ⌝ }
     ensures { λ r. ⌜ r ≡ crc8Of (now (bytes .entry)) ⌝ }
 {
     let mut register: u8 = 0;
@@ -43,7 +43,7 @@ fn through8(table: &[u8; 256], bytes: &[u8]) -> u8
 }
 
 fn through16(table: &[u16; 256], bytes: &[u8]) -> u32
-    requires { ⌜ TableOf taps16 (now table) ⌝ }
+    requires { ⌜ now table ≡ tableOf taps16 ⌝ }
     ensures { λ r. ⌜ r ≡ crc16Of (now (bytes .entry)) ⌝ }
 {
     let mut register: u32 = 0;

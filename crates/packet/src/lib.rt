@@ -101,6 +101,13 @@ fn number_for(good: bool, wanted: usize, room: usize) -> u8
     }
 }
 
+// The CRC-16 is sent inverted.
+fn inverted(register: u16) -> u16
+    ensures { λ r. ⌜ r ≡ 65535 - register ⌝ }
+{
+    65535 - register
+}
+
 fn put_head(buffer: &mut [u8], code: u8, address: u8, count: u8)
     requires { ⌜ 3 ≤ length (now buffer) ⌝ }
     ensures { λ _. ⌜ now (buffer .exit) ≡ over (code ∷ address ∷ count ∷ []) (now (buffer .entry)) ⌝ }
@@ -126,9 +133,9 @@ fn put_seal(buffer: &mut [u8], place: usize)
     requires { ⌜ place + 2 ≤ length (now buffer) ⌝ }
     ensures { λ _. ⌜ now (buffer .exit) ≡ placed place (sealOf (take place (now (buffer .entry)))) (now (buffer .entry)) ⌝ }
 {
-    let inverted = 65535 - checksum::crc16(&buffer[..place]);
-    buffer[place] = (inverted % 256) as u8;
-    buffer[place + 1] = (inverted / 256) as u8;
+    let sent = inverted(checksum::crc16(&buffer[..place]));
+    buffer[place] = (sent % 256) as u8;
+    buffer[place + 1] = (sent / 256) as u8;
 }
 
 fn lay_write(address: u32, data: &[u8], buffer: &mut [u8])
@@ -318,9 +325,9 @@ fn is_sealed(packet: &[u8]) -> bool
     ensures { λ r. ⌜ r ≡ isSealed (now (packet .entry)) ⌝ }
 {
     let place = seal_place(packet);
-    let inverted = 65535 - checksum::crc16(&packet[..place]);
-    if byte_at(packet, place) == (inverted % 256) as usize {
-        byte_at(packet, place + 1) == (inverted / 256) as usize
+    let sent = inverted(checksum::crc16(&packet[..place]));
+    if byte_at(packet, place) == (sent % 256) as usize {
+        byte_at(packet, place + 1) == (sent / 256) as usize
     } else {
         false
     }

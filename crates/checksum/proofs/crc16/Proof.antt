@@ -1,15 +1,15 @@
--- `checksum::crc16` meets its contract: the table's rule is one test over the whole table, which antt computes.
+-- `checksum::crc16` meets its contract: the constant is the whole table, which antt computes.
 use native.Mathlib.Omega.{arith}
+use mathlib.Core.Path.{refl}
 use borrow.Author.Needs.{needs}
-use Rattle.checksum.specs.Register.{entered, taps16, taps, shifts, shifted}
+use Rattle.checksum.specs.Register.{tableOf, entries, entered, taps16, taps, shifts, shifted}
 use Rattle.checksum.proofs.Shift.{crc16Of-lt}
-use Rattle.checksum.proofs.Table.{entry}
 use Rattle.checksum.proofs.crc16.Statement.{statement}
 use Rattle.checksum.proofs.crc16.Tie as tie
 
 through16-requires : tie.Need-through16-requires
-unfolding entered taps16 taps shifts shifted
-through16-requires c κs = λ k h. simp (entry (entered taps16 0))
+unfolding tableOf entries entered taps16 taps shifts shifted
+through16-requires c κs = refl
 
 cast-result : tie.Need-cast-result
 cast-result c = omega (arith, c .through16 .ensures, crc16Of-lt (c .before .before .before .args .bytes .now))

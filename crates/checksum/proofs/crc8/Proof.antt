@@ -1,13 +1,13 @@
--- `checksum::crc8` meets its contract: the table's rule is one test over the whole table, which antt computes.
+-- `checksum::crc8` meets its contract: the constant is the whole table, which antt computes.
+use mathlib.Core.Path.{refl}
 use borrow.Author.Needs.{needs}
-use Rattle.checksum.specs.Register.{entered, taps8, taps, shifts, shifted}
-use Rattle.checksum.proofs.Table.{entry}
+use Rattle.checksum.specs.Register.{tableOf, entries, entered, taps8, taps, shifts, shifted}
 use Rattle.checksum.proofs.crc8.Statement.{statement}
 use Rattle.checksum.proofs.crc8.Tie as tie
 
 through8-requires : tie.Need-through8-requires
-unfolding entered taps8 taps shifts shifted
-through8-requires c κs = λ k h. simp (entry (entered taps8 0))
+unfolding tableOf entries entered taps8 taps shifts shifted
+through8-requires c κs = refl
 
 returns : tie.Need-returns
 returns c = search needs

@@ -6,6 +6,7 @@ use native.Mathlib.Omega.{arith}
 use lib.Dec.{lit<}
 use lib.Bits.{bitXor, xor-lt}
 use Rattle.checksum.specs.Register.{entered, taps, taps16}
+use Rattle.checksum.proofs.Table.{entry}
 use Rattle.checksum.proofs.Shift.{entered-table, entered-lt}
 use Rattle.checksum.proofs.next16.Statement.{statement}
 use Rattle.checksum.proofs.next16.Tie as tie
@@ -31,13 +32,13 @@ unfolding taps16 taps
 cast-result-2 c =
     let a = c .before .args in
     let k = bitXor (a .register % 256) (a .byte) in
-    omega (arith, c .before .pre k (place (c .before)), entered-lt 16 taps16 (lit< tt) 0 k (lit< tt))
+    omega (arith, entry taps16 (a .table .now) (c .before .pre) k (place (c .before)), entered-lt 16 taps16 (lit< tt) 0 k (lit< tt))
 
 returns : tie.Need-returns
 returns c =
     let a = c .before .args in
     ap (λ (k : ℕ). bitXor k (a .register / 256))
-    (c .before .pre (bitXor (a .register % 256) (a .byte)) (place (c .before)))
+    (entry taps16 (a .table .now) (c .before .pre) (bitXor (a .register % 256) (a .byte)) (place (c .before)))
     ∙ sym (entered-table taps16 (a .register) (a .byte) (omega arith))
 
 pub next16-spec : {M : Type 1} → statement M

@@ -4,6 +4,7 @@ use Prim.Native.Nat.{ℕ, _%_, _/_, _<_}
 use native.Mathlib.Omega.{arith}
 use lib.Bits.{bitXor, xor-lt, xor-zero-r}
 use Rattle.checksum.specs.Register.{entered, taps8}
+use Rattle.checksum.proofs.Table.{entry}
 use Rattle.checksum.proofs.Shift.{entered-table}
 use Rattle.checksum.proofs.next8.Statement.{statement}
 use Rattle.checksum.proofs.next8.Tie as tie
@@ -27,7 +28,7 @@ narrow r x h b =
 returns : tie.Need-returns
 returns c =
     let a = c .before .args in
-    c .before .pre (bitXor (a .register) (a .byte)) (place (c .before))
+    entry taps8 (a .table .now) (c .before .pre) (bitXor (a .register) (a .byte)) (place (c .before))
     ∙ narrow (a .register) (a .byte) (omega arith) (omega arith)
 
 pub next8-spec : {M : Type 1} → statement M

@@ -21,8 +21,8 @@ slice-aggregate-crc16 c =
 crc16-requires : tie.Need-crc16-requires
 crc16-requires c κs = search needs
 
-sub-inverted : tie.Need-sub-inverted
-sub-inverted c = search needs
+inverted-requires : tie.Need-inverted-requires
+inverted-requires c κs = search needs
 
 byte-at-requires : tie.Need-byte-at-requires
 byte-at-requires c κs = search needs
@@ -43,16 +43,19 @@ returns : tie.Need-returns
 unfolding isSealed invertedOf
 returns c =
     let b = c .before .before in
-    let r = b .before in
+    let v = b .before in
+    let r = v .before in
     simp
-    (← r .before .before .seal-place .ensures, ← r .crc16 .ensures, ← b .byte-at .ensures .0, ← c .byte-at2 .ensures .0, eq-eqb _ _ (c .before .if1 .taken))
+    (← r .before .before .seal-place .ensures, ← r .crc16 .ensures, ← v .inverted .ensures, ← b .byte-at .ensures .0, ← c .byte-at2 .ensures .0, eq-eqb _ _ (c .before .if1 .taken))
 
 returns-2 : tie.Need-returns-2
 unfolding isSealed invertedOf
 returns-2 c =
     let b = c .before in
-    let r = b .before in
-    simp (← r .before .before .seal-place .ensures, ← r .crc16 .ensures, ← b .byte-at .ensures .0, ne-eqb _ _ (c .if1 .left))
+    let v = b .before in
+    let r = v .before in
+    simp
+    (← r .before .before .seal-place .ensures, ← r .crc16 .ensures, ← v .inverted .ensures, ← b .byte-at .ensures .0, ne-eqb _ _ (c .if1 .left))
 
 pub is-sealed-spec : {M : Type 1} → statement M
 is-sealed-spec =
@@ -61,7 +64,7 @@ is-sealed-spec =
     seal-place-requires
     slice-aggregate-crc16
     crc16-requires
-    sub-inverted
+    inverted-requires
     byte-at-requires
     cast-if1
     add-byte-at

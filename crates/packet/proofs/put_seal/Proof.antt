@@ -24,8 +24,8 @@ slice-aggregate-crc16 c =
 crc16-requires : tie.Need-crc16-requires
 crc16-requires c κs = search needs
 
-sub-inverted : tie.Need-sub-inverted
-sub-inverted c = search needs
+inverted-requires : tie.Need-inverted-requires
+inverted-requires c κs = search needs
 
 cast-buffer : tie.Need-cast-buffer
 cast-buffer c = search needs
@@ -53,10 +53,12 @@ two d n x y h = ap (λ (k : ℕ). set (set d n x) k y) (add-one n) ∙ sets-eq (
 returns : tie.Need-returns
 unfolding sealOf invertedOf
 returns c =
-    let a = c .before .before .before .args in
+    let r = c .before in
+    let a = r .before .before .before .args in
     let d = a .buffer .now in
-    two d (a .place) ((65535 - c .crc16 .result) % 256) ((65535 - c .crc16 .result) / 256) (omega arith)
-    ∙ ap (λ (k : ℕ). placed (a .place) (((65535 - k) % 256) ∷ ((65535 - k) / 256) ∷ []) d) (c .crc16 .ensures)
+    two d (a .place) (c .inverted .result % 256) (c .inverted .result / 256) (omega arith)
+    ∙ ap (λ (k : ℕ). placed (a .place) ((k % 256) ∷ (k / 256) ∷ []) d)
+    (c .inverted .ensures ∙ ap (λ (k : ℕ). 65535 - k) (r .crc16 .ensures))
 
 pub put-seal-spec : {M : Type 1} → statement M
 put-seal-spec =
@@ -65,7 +67,7 @@ put-seal-spec =
     slice-reshare-prefix-crc16
     slice-aggregate-crc16
     crc16-requires
-    sub-inverted
+    inverted-requires
     cast-buffer
     slice-write-buffer
     cast-buffer-2
