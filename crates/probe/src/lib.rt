@@ -5,6 +5,26 @@
 //
 // Worked example: a probe that has taken seven bits of CCh and takes a last 1 is selected.
 
+ghost use mathlib.Core.Path.{_≡_};
+ghost use Prim.Native.Nat.{_+_, _*_, _/_};
+ghost use Rattle.probe.specs.Probe.{deafNew, inCondition, withMark, sendsSearching, sends, resumed, obeyed, digit, tookCode, agrees, tookSending, tookMatching, tookSearching, took, reset};
+
+// The ROM commands.
+pub const READ_ROM: u8 = 0x33;
+
+pub const MATCH_ROM: u8 = 0x55;
+
+pub const SEARCH_ROM: u8 = 0xF0;
+
+pub const SKIP_ROM: u8 = 0xCC;
+
+pub const RESUME: u8 = 0xA5;
+
+// The number of an ID's last bit, and of a code's.
+const LAST_BIT: u8 = 63;
+
+const LAST_CODE_BIT: u8 = 7;
+
 // Which of the three slots of a search bit comes next.
 pub enum Slot {
     // It sends the bit.
@@ -32,4 +52,209 @@ pub struct Probe {
     pub id: u64,
     pub marked: bool,
     pub condition: Condition,
+}
+
+// A code with one bit more: it goes in at the top and moves the earlier ones down.
+fn moved(code: u8, level: bool) -> u8
+    ensures { λ r. ⌜ r ≡ code / 2 + 128 * digit level ⌝ }
+{
+    if level { code / 2 + 128 } else { code / 2 }
+}
+
+// What Resume makes of a probe with this mark.
+fn resumed(marked: bool) -> Condition
+    ensures { λ r. ⌜ r ≡ resumed marked ⌝ }
+{
+    if marked {
+        Condition::Selected
+    } else {
+        Condition::Deaf
+    }
+}
+
+impl Probe {
+    // A newly fitted probe is deaf and unmarked.
+    pub fn newly_fitted(id: u64) -> Probe
+        ensures { λ r. ⌜ r ≡ deafNew id ⌝ }
+    {
+        Probe {
+            id,
+            marked: false,
+            condition: Condition::Deaf,
+        }
+    }
+
+    fn in_condition(self, condition: Condition) -> Probe
+        ensures { λ r. ⌜ r ≡ inCondition self condition ⌝ }
+    {
+        Probe {
+            id: self.id,
+            marked: self.marked,
+            condition,
+        }
+    }
+
+    fn with_mark(self, marked: bool, condition: Condition) -> Probe
+        ensures { λ r. ⌜ r ≡ withMark self marked condition ⌝ }
+    {
+        Probe {
+            id: self.id,
+            marked,
+            condition,
+        }
+    }
+
+    // ---- what a probe sends
+
+    fn sends_searching(self, bit: u8, slot: Slot) -> bool
+        ensures { λ r. ⌜ r ≡ sendsSearching (self .id) bit slot ⌝ }
+    {
+        match slot {
+            Slot::First => identity::bit(self.id, bit),
+            Slot::Second => !identity::bit(self.id, bit),
+            Slot::Third => true,
+        }
+    }
+
+    // What the probe lets the line be in a slot: false where it sends 0, true where it sends 1 or nothing.
+    pub fn sends(self) -> bool
+        ensures { λ r. ⌜ r ≡ sends self ⌝ }
+    {
+        let condition = self.condition;
+        match condition {
+            Condition::Deaf => true,
+            Condition::Taking { count: _, code: _ } => true,
+            Condition::Sending { bit } => identity::bit(self.id, bit),
+            Condition::Matching { bit: _ } => true,
+            Condition::Searching { bit, slot } => self.sends_searching(bit, slot),
+            Condition::Selected => true,
+        }
+    }
+
+    // ---- what a probe becomes
+
+    // The probe once a ROM command is whole.
+    fn obeyed(self, code: u8) -> Probe
+        ensures { λ r. ⌜ r ≡ obeyed code self ⌝ }
+    {
+        match code {
+            READ_ROM => self.in_condition(Condition::Sending { bit: 0 }),
+            MATCH_ROM => self.with_mark(false, Condition::Matching { bit: 0 }),
+            SEARCH_ROM => self.with_mark(
+                false,
+                Condition::Searching {
+                    bit: 0,
+                    slot: Slot::First,
+                },
+            ),
+            SKIP_ROM => self.in_condition(Condition::Selected),
+            RESUME => self.in_condition(resumed(self.marked)),
+            _ => self.in_condition(Condition::Deaf),
+        }
+    }
+
+    fn took_code(self, count: u8, code: u8, level: bool) -> Probe
+        ensures { λ r. ⌜ r ≡ tookCode count code level self ⌝ }
+    {
+        let code = moved(code, level);
+        if LAST_CODE_BIT <= count {
+            self.obeyed(code)
+        } else {
+            self.in_condition(Condition::Taking {
+                count: count + 1,
+                code,
+            })
+        }
+    }
+
+    // Whether a level is this bit of the ID.
+    fn agrees(self, level: bool, bit: u8) -> bool
+        ensures { λ r. ⌜ r ≡ agrees level (self .id) bit ⌝ }
+    {
+        if identity::bit(self.id, bit) {
+            level
+        } else {
+            !level
+        }
+    }
+
+    fn took_sending(self, bit: u8) -> Probe
+        ensures { λ r. ⌜ r ≡ tookSending bit self ⌝ }
+    {
+        if LAST_BIT <= bit {
+            self.in_condition(Condition::Selected)
+        } else {
+            self.in_condition(Condition::Sending { bit: bit + 1 })
+        }
+    }
+
+    fn took_matching(self, bit: u8, level: bool) -> Probe
+        ensures { λ r. ⌜ r ≡ tookMatching bit level self ⌝ }
+    {
+        if self.agrees(level, bit) {
+            if LAST_BIT <= bit {
+                self.with_mark(true, Condition::Selected)
+            } else {
+                self.in_condition(Condition::Matching { bit: bit + 1 })
+            }
+        } else {
+            self.in_condition(Condition::Deaf)
+        }
+    }
+
+    // The third slot of a search bit.
+    fn took_third(self, bit: u8, level: bool) -> Probe
+        ensures { λ r. ⌜ r ≡ tookSearching bit Slot.Third level self ⌝ }
+    {
+        if self.agrees(level, bit) {
+            if LAST_BIT <= bit {
+                self.with_mark(true, Condition::Selected)
+            } else {
+                self.in_condition(Condition::Searching {
+                    bit: bit + 1,
+                    slot: Slot::First,
+                })
+            }
+        } else {
+            self.in_condition(Condition::Deaf)
+        }
+    }
+
+    fn took_searching(self, bit: u8, slot: Slot, level: bool) -> Probe
+        ensures { λ r. ⌜ r ≡ tookSearching bit slot level self ⌝ }
+    {
+        match slot {
+            Slot::First => self.in_condition(Condition::Searching {
+                bit,
+                slot: Slot::Second,
+            }),
+            Slot::Second => self.in_condition(Condition::Searching {
+                bit,
+                slot: Slot::Third,
+            }),
+            Slot::Third => self.took_third(bit, level),
+        }
+    }
+
+    // The probe after a slot of this level.
+    pub fn took(self, level: bool) -> Probe
+        ensures { λ r. ⌜ r ≡ took level self ⌝ }
+    {
+        let condition = self.condition;
+        match condition {
+            Condition::Deaf => self,
+            Condition::Taking { count, code } => self.took_code(count, code, level),
+            Condition::Sending { bit } => self.took_sending(bit),
+            Condition::Matching { bit } => self.took_matching(bit, level),
+            Condition::Searching { bit, slot } => self.took_searching(bit, slot, level),
+            Condition::Selected => self,
+        }
+    }
+
+    // The probe after a 1-Wire reset: taking a command, with no bits.
+    pub fn reset(self) -> Probe
+        ensures { λ r. ⌜ r ≡ reset self ⌝ }
+    {
+        self.in_condition(Condition::Taking { count: 0, code: 0 })
+    }
 }

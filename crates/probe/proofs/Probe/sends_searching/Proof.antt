@@ -1,0 +1,47 @@
+-- `probe::Probe::sends_searching` meets its contract: by the slot.
+use mathlib.Core.Path.{sym, ap, _∙_}
+use mathlib.Core.Bool.{not}
+use Rattle.probe.specs.Probe.{sendsSearching}
+use borrow.Author.Needs.{needs}
+use Rattle.probe.proofs.Probe.sends_searching.Statement.{statement}
+use Rattle.probe.proofs.Probe.sends_searching.Tie as tie
+
+enum-told : tie.Need-enum-told
+enum-told c = search needs
+
+bit-requires : tie.Need-bit-requires
+bit-requires c κs = search needs
+
+enum-told-2 : tie.Need-enum-told-2
+enum-told-2 c = search needs
+
+bit-requires-2 : tie.Need-bit-requires-2
+bit-requires-2 c κs = search needs
+
+enum-told-3 : tie.Need-enum-told-3
+enum-told-3 c = search needs
+
+returns : tie.Need-returns
+unfolding sendsSearching
+returns c = c .bit .ensures ∙ sym (ap (sendsSearching (c .before .before .before .args .self .id) (c .before .before .before .args .bit)) (c .before .enum-told .given .1))
+
+returns-2 : tie.Need-returns-2
+unfolding sendsSearching
+returns-2 c = ap not (c .bit2 .ensures) ∙ sym (ap (sendsSearching (c .before .before .before .args .self .id) (c .before .before .before .args .bit)) (c .before .enum-told2 .given .1))
+
+returns-3 : tie.Need-returns-3
+unfolding sendsSearching
+returns-3 c = sym (ap (sendsSearching (c .before .before .args .self .id) (c .before .before .args .bit)) (c .enum-told3 .given .1))
+
+pub sends-searching-spec : {M : Type 1} → statement M
+sends-searching-spec =
+    tie.close
+    (tie.spec
+    enum-told
+    bit-requires
+    enum-told-2
+    bit-requires-2
+    enum-told-3
+    returns
+    returns-2
+    returns-3)

@@ -1,0 +1,39 @@
+-- `probe::Probe::took_code` meets its contract: by whether this is the eighth bit.
+use mathlib.Core.Path.{ap, _∙_}
+use Prim.Native.Nat.{ℕ, _+_}
+use borrow.Author.Tests.{le-leb, lt-leb}
+use Rattle.probe.specs.Probe.{tookCode, obeyed, inCondition}
+use Rattle.probe.specs.declared.Condition.the-variants.{Taking}
+use borrow.Author.Needs.{needs}
+use Rattle.probe.proofs.Probe.took_code.Statement.{statement}
+use Rattle.probe.proofs.Probe.took_code.Tie as tie
+
+moved-requires : tie.Need-moved-requires
+moved-requires c κs = search needs
+
+obeyed-requires : tie.Need-obeyed-requires
+obeyed-requires c κs = search needs
+
+add-t8 : tie.Need-add-t8
+add-t8 c = search needs
+
+in-condition-requires : tie.Need-in-condition-requires
+in-condition-requires c κs = search needs
+
+returns : tie.Need-returns
+unfolding tookCode
+returns c =
+    let p = c .before .before .before .args .self in
+    simp (le-leb _ _ (c .before .if1 .taken)) (c .obeyed .ensures ∙ ap (λ (x : ℕ). obeyed x p) (c .before .before .moved .ensures))
+
+returns-2 : tie.Need-returns-2
+unfolding tookCode
+returns-2 c =
+    let a = c .before .before .before .args in
+    simp (lt-leb _ _ (c .before .if1 .left))
+    (c .in-condition .ensures ∙ ap (λ (x : ℕ). inCondition (a .self) (Taking (a .count + 1) x)) (c .before .before .moved .ensures))
+
+pub took-code-spec : {M : Type 1} → statement M
+took-code-spec =
+    tie.close
+    (tie.spec moved-requires obeyed-requires add-t8 in-condition-requires returns returns-2)
