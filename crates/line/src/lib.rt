@@ -5,9 +5,182 @@
 //
 // Worked example: two probes that send 1 and 0 leave the line at 0 in a slot in which the bridge writes 1.
 use probe::Probe;
+ghost use mathlib.Core.Path.{_≡_};
+ghost use Prim.Native.Nat.{_<_, _≤_};
+ghost use lib.ListN.{length, take, drop};
+ghost use Rattle.line.specs.Line.{all, fitted, bare, onFitted, level, slot, resetAll, present, isFitted, fitNumber, withProbe, afterFit};
+ghost use Rattle.probe.specs.Probe.{sends, took, reset};
+
+// The numbers that fitting returns besides those of the ID itself ("Numbers returned").
+pub const DONE: u8 = 0;
+
+pub const REFUSED_FULL: u8 = 1;
+
+pub const REFUSED_FITTED: u8 = 4;
+
+// The most probes that a line takes.
+pub const MOST: usize = 64;
 
 // The table of probes: the first `count` entries are fitted, in the order in which they came; the others hold one fixed value.
 pub struct Line {
     pub probes: [Probe; 64],
     pub count: usize,
+}
+
+// A slot's level and the line after it.
+pub struct Slotted {
+    pub level: bool,
+    pub line: Line,
+}
+
+// The number that a fitting returns and the line after it.
+pub struct Fitting {
+    pub number: u8,
+    pub line: Line,
+}
+
+impl Line {
+    // The line with no probe.
+    pub fn bare() -> Line
+        ensures { λ r. ⌜ r ≡ bare ⌝ }
+    {
+        let free = Probe::newly_fitted(0);
+        Line {
+            probes: [free; 64],
+            count: 0,
+        }
+    }
+
+    // Some probe is fitted.
+    pub fn present(self) -> bool
+        ensures { λ r. ⌜ r ≡ present self ⌝ }
+    {
+        0 < self.count
+    }
+
+    // How many entries are fitted. No line has more than 64, so the bound is never met; with it the loops need no premise.
+    fn entries(self) -> usize
+        ensures { λ r. ⌜ (length (self .probes) ≡ 64) × (r ≤ 64)
+            × (take r (self .probes) ≡ fitted self) × (drop r (self .probes) ≡ drop (self .count) (self .probes)) ⌝ }
+    {
+        let count = self.count;
+        if count < MOST { count } else { MOST }
+    }
+
+    // No probe sends 0.
+    fn all_send(self) -> bool
+        ensures { λ r. ⌜ r ≡ all sends (fitted self) ⌝ }
+    {
+        let n = self.entries();
+        let mut i = 0;
+        while i < n {
+            let p = self.probes[i];
+            if !p.sends() {
+                return false;
+            }
+            i += 1;
+        }
+        true
+    }
+
+    fn level(self, write: bool) -> bool
+        ensures { λ r. ⌜ r ≡ level write self ⌝ }
+    {
+        if write { self.all_send() } else { false }
+    }
+
+    // Every probe takes the level.
+    fn taken(mut self, level: bool) -> Line
+        ensures { λ r. ⌜ r ≡ onFitted (took level) self ⌝ }
+    {
+        let n = self.entries();
+        let mut i = 0;
+        while i < n {
+            let p = self.probes[i];
+            self.probes[i] = p.took(level);
+            i += 1;
+        }
+        self
+    }
+
+    // One slot, in which the bridge writes a bit.
+    pub fn slot(self, write: bool) -> Slotted
+        ensures { λ r. ⌜ (r .level ≡ level write self) × (r .line ≡ slot write self) ⌝ }
+    {
+        let level = self.level(write);
+        Slotted {
+            level,
+            line: self.taken(level),
+        }
+    }
+
+    // A 1-Wire reset reaches every probe.
+    pub fn reset(mut self) -> Line
+        ensures { λ r. ⌜ r ≡ resetAll self ⌝ }
+    {
+        let n = self.entries();
+        let mut i = 0;
+        while i < n {
+            let p = self.probes[i];
+            self.probes[i] = p.reset();
+            i += 1;
+        }
+        self
+    }
+
+    // A probe with this ID is fitted.
+    fn is_fitted(self, id: u64) -> bool
+        ensures { λ r. ⌜ r ≡ isFitted id self ⌝ }
+    {
+        let n = self.entries();
+        let mut i = 0;
+        while i < n {
+            let p = self.probes[i];
+            if id == p.id {
+                return true;
+            }
+            i += 1;
+        }
+        false
+    }
+
+    fn with_probe(mut self, id: u64) -> Line
+        requires { ⌜ self .count < 64 ⌝ }
+        ensures { λ r. ⌜ r ≡ withProbe id self ⌝ }
+    {
+        let count = self.count;
+        self.probes[count] = Probe::newly_fitted(id);
+        self.count = count + 1;
+        self
+    }
+
+    // A probe is fitted: the ID by itself is checked first, then whether it is there already, then whether there is room.
+    pub fn fit(self, id: &[u8; 8]) -> Fitting
+        ensures { λ r. ⌜ (r .number ≡ fitNumber (now (id .entry)) self) × (r .line ≡ afterFit (now (id .entry)) self) ⌝ }
+    {
+        let refused = identity::refusal(id);
+        if refused != identity::NOT_REFUSED {
+            return Fitting {
+                number: refused,
+                line: self,
+            };
+        }
+        let id = identity::number(id);
+        if self.is_fitted(id) {
+            return Fitting {
+                number: REFUSED_FITTED,
+                line: self,
+            };
+        }
+        if MOST <= self.count {
+            return Fitting {
+                number: REFUSED_FULL,
+                line: self,
+            };
+        }
+        Fitting {
+            number: DONE,
+            line: self.with_probe(id),
+        }
+    }
 }

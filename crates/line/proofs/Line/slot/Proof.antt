@@ -1,0 +1,23 @@
+-- `line::Line::slot` meets its contract: the level is that of the definition, and every probe takes it.
+use mathlib.Core.Path.{ap, _∙_}
+use mathlib.Core.Bool.{Bool}
+use Rattle.probe.specs.Probe.{took}
+use Rattle.line.specs.Line.{level, slot, onFitted}
+use borrow.Author.Needs.{needs}
+use Rattle.line.proofs.Line.slot.Statement.{statement}
+use Rattle.line.proofs.Line.slot.Tie as tie
+
+level-requires : tie.Need-level-requires
+level-requires c κs = search needs
+
+taken-requires : tie.Need-taken-requires
+taken-requires c κs = search needs
+
+returns : tie.Need-returns
+unfolding slot
+returns c =
+    let l = c .before .before .args .self in
+    (c .before .level .ensures, c .taken .ensures ∙ ap (λ (t : Bool). onFitted (took t) l) (c .before .level .ensures))
+
+pub slot-spec : {M : Type 1} → statement M
+slot-spec = tie.close (tie.spec level-requires taken-requires returns)

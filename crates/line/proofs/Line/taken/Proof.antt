@@ -1,0 +1,74 @@
+-- `line::Line::taken` meets its contract: the entries gone through have taken the level.
+use mathlib.Core.Path.{_≡_, refl, _∙_, ap}
+use Prim.Native.Nat.{ℕ, _≤_, _-_}
+use native.Mathlib.Omega.{arith}
+use borrow.Author.Needs.{needs}
+use Rattle.probe.specs.Probe.{took}
+use Rattle.line.proofs.Steps.{after, after-next, after-all}
+use Rattle.line.proofs.Line.taken.Statement.{statement}
+use Rattle.line.proofs.Line.taken.Tie as tie
+
+abbrev Inv-loop : tie.InvT-loop
+Inv-loop level self₀ n i₀ self i = (i ≤ n) × (self ≡ after (took level) i self₀)
+
+abbrev μ-loop : tie.MeasureT-loop
+μ-loop level self₀ n i₀ self i = n - i
+
+entries-requires : tie.Need-entries-requires Inv-loop μ-loop
+entries-requires c κs = search needs
+
+loop-holds : tie.Need-loop-holds Inv-loop μ-loop
+loop-holds c = (omega arith, refl)
+
+mul-p : tie.Need-mul-p Inv-loop μ-loop
+mul-p c = omega arith
+
+element-copy-out-p : tie.Need-element-copy-out-p Inv-loop μ-loop
+element-copy-out-p c = omega arith
+
+took-requires : tie.Need-took-requires Inv-loop μ-loop
+took-requires c κs = search needs
+
+mul-t9 : tie.Need-mul-t9 Inv-loop μ-loop
+mul-t9 c = omega arith
+
+element-set-from-self : tie.Need-element-set-from-self Inv-loop μ-loop
+element-set-from-self c = omega arith
+
+add-i : tie.Need-add-i Inv-loop μ-loop
+add-i c = omega arith
+
+loop-less : tie.Need-loop-less Inv-loop μ-loop
+loop-less c = omega arith
+
+loop-again : tie.Need-loop-again Inv-loop μ-loop
+loop-again c =
+    let l = c .before .before .before .loop in
+    let a = c .before .before .before .before .before .args in
+    (omega arith, after-next (took (a .level)) (a .t1) (l .self) (l .i) _ (c .took .result) (omega arith) (l .inv .1) (c .took .ensures))
+
+returns : tie.Need-returns Inv-loop μ-loop
+returns c =
+    let l = c .before .loop in
+    let e = c .before .before .entries in
+    let a = c .before .before .before .args in
+    let stop : l .i ≡ e .result = omega arith in
+    l .inv .1 ∙ ap (λ (k : ℕ). after (took (a .level)) k (a .t1)) stop ∙ after-all (took (a .level)) (a .t1) (e .result) (e .ensures .2) (e .ensures .3)
+
+pub taken-spec : {M : Type 1} → statement M
+taken-spec =
+    tie.close
+    (tie.spec
+    Inv-loop
+    μ-loop
+    entries-requires
+    loop-holds
+    mul-p
+    element-copy-out-p
+    took-requires
+    mul-t9
+    element-set-from-self
+    add-i
+    loop-less
+    loop-again
+    returns)
