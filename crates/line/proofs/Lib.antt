@@ -1,3 +1,4 @@
 pub mod Front
 pub mod Steps
 pub mod Places
+pub mod Unique

@@ -1,0 +1,19 @@
+-- Each contract leaves one answer for each argument.
+use mathlib.Core.Path.{sym, _∙_}
+use Rattle.identity.proofs.Unique.{OneAnswer}
+use Rattle.probe.proofs.Probe.newly_fitted.Reads as newly-fitted
+use Rattle.probe.proofs.Probe.sends.Reads as sends
+use Rattle.probe.proofs.Probe.took.Reads as took
+use Rattle.probe.proofs.Probe.reset.Reads as reset
+
+pub one-newly-fitted : OneAnswer newly-fitted.Post
+one-newly-fitted κ a x y s t p q = p ∙ sym q
+
+pub one-sends : OneAnswer sends.Post
+one-sends κ a x y s t p q = p ∙ sym q
+
+pub one-took : OneAnswer took.Post
+one-took κ a x y s t p q = p ∙ sym q
+
+pub one-reset : OneAnswer reset.Post
+one-reset κ a x y s t p q = p ∙ sym q
