@@ -34,6 +34,8 @@ low-alike i j e = go (eqb (j / 1 % 2) 1) refl
 pub bitOf-inj : (n i j : ℕ) → i < 2 ^ n → j < 2 ^ n → ((k : ℕ) → k < n → bitOf i k ≡ bitOf j k) → i ≡ j
 bitOf-inj zero i j hi hj alike = lt-one hi ∙ sym (lt-one hj)
 bitOf-inj (suc n) i j hi hj alike =
-    let above : (k : ℕ) → k < n → bitOf (i / 2) k ≡ bitOf (j / 2) k = λ k h. bitOf-half i k ∙ alike (suc k) (omega arith) ∙ sym (bitOf-half j k) in
     let high : i / 2 ≡ j / 2 = bitOf-inj n (i / 2) (j / 2) (omega (arith, pow-suc 2 n)) (omega (arith, pow-suc 2 n)) above in
     omega (arith, low-alike i j (alike 0 (omega arith)))
+  where
+    above : (k : ℕ) → k < n → bitOf (i / 2) k ≡ bitOf (j / 2) k
+    above k h = bitOf-half i k ∙ alike (suc k) (omega arith) ∙ sym (bitOf-half j k)

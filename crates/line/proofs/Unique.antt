@@ -2,10 +2,10 @@
 use mathlib.Core.Path.{_≡_, sym, ap₂, _∙_}
 use mathlib.Core.Bool.{Bool}
 use Prim.Native.Nat.{ℕ}
-use Rattle.identity.proofs.Unique.{OneAnswer}
 use Rattle.line.specs.declared.Line.{Line}
 use Rattle.line.specs.declared.Slotted.{Slotted}
 use Rattle.line.specs.declared.Fitting.{Fitting}
+use Rattle.identity.proofs.Unique.{OneAnswer}
 use Rattle.line.proofs.Line.bare.Reads as bare
 use Rattle.line.proofs.Line.present.Reads as present
 use Rattle.line.proofs.Line.slot.Reads as slot

@@ -1,9 +1,9 @@
 -- `identity::bit` meets its contract: past the last bit of a number of 64 bits all read 0.
 use mathlib.Core.Path.{refl, sym}
 use native.Mathlib.Omega.{arith}
+use borrow.Author.Needs.{needs}
 use Rattle.identity.specs.Identity.{bitOf}
 use Rattle.identity.proofs.Bits.{bitOf-past}
-use borrow.Author.Needs.{needs}
 use Rattle.identity.proofs.bit.Statement.{statement}
 use Rattle.identity.proofs.bit.Tie as tie
 

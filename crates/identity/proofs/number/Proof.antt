@@ -47,7 +47,8 @@ loop-again c =
     let l = c .before .before .loop in (
       omega arith,
       omega (arith, numberOf-down s (l .i) (omega arith) (omega arith)),
-      down-lt (l .number) (getD s (l .i - 1) 0) (l .i) (omega arith) (omega arith) (l .inv .2) (omega (arith, c .shared-slice-known .given (l .i - 1))),
+      down-lt (l .number) (getD s (l .i - 1) 0) (l .i) (omega arith) (omega arith) (l .inv .2)
+          (omega (arith, c .shared-slice-known .given (l .i - 1))),
       l .inv .3,
     )
 

@@ -41,15 +41,16 @@ returns c =
 element-copy-out-if2 : tie.Need-element-copy-out-if2
 element-copy-out-if2 c = search needs
 
+right-crc : (c : tie.Else1) → crc8Of (take 7 (c .before .before .before .before .before .args .bytes .now)) ≡ getD (c .before .before .before .before .before .args .bytes .now) 7 0
+right-crc c = sym (c .before .before .crc8 .ensures) ∙ c .if1 .left
+
 returns-2 : tie.Need-returns-2
 returns-2 c =
-    let c₁ = c .before .before in
-    zero-family (c₁ .before .before .before .before .before .args .bytes .now) (sym (c₁ .before .before .crc8 .ensures) ∙ c₁ .if1 .left) (c .if2 .taken)
+    zero-family (c .before .before .before .before .before .before .before .args .bytes .now) (right-crc (c .before .before)) (c .if2 .taken)
 
 returns-3 : tie.Need-returns-3
 returns-3 c =
-    let c₁ = c .before .before in
-    right (c₁ .before .before .before .before .before .args .bytes .now) (sym (c₁ .before .before .crc8 .ensures) ∙ c₁ .if1 .left) (c .if2 .left)
+    right (c .before .before .before .before .before .before .before .args .bytes .now) (right-crc (c .before .before)) (c .if2 .left)
 
 pub refusal-spec : {M : Type 1} → statement M
 refusal-spec =

@@ -3,9 +3,9 @@ use mathlib.Core.Path.{_≡_, sym, ap, _∙_}
 use mathlib.Core.Bool.{true}
 use Prim.Native.Nat.{ℕ, _≤_, _-_}
 use native.Mathlib.Omega.{arith}
+use lib.ListN.{take}
 use borrow.Author.Needs.{needs}
 use borrow.Author.Tests.{not-true, not-false}
-use lib.ListN.{take}
 use Rattle.probe.specs.Probe.{sends}
 use Rattle.line.specs.Line.{all}
 use Rattle.line.proofs.Front.{all-none, all-next, all-fails}
@@ -38,7 +38,9 @@ returns c =
     let l = c .before .before .before .before .loop in
     let e = c .before .before .before .before .before .entries in
     let ps = c .before .before .before .before .before .before .args .t1 .probes in
-    sym (ap (all sends) (sym (e .ensures .2)) ∙ all-fails sends ps (e .result) (l .i) _ (omega arith) (omega arith) (sym (c .before .sends .ensures) ∙ not-true _ (c .if1 .taken)))
+    sym
+    (ap (all sends) (sym (e .ensures .2))
+    ∙ all-fails sends ps (e .result) (l .i) _ (omega arith) (omega arith) (sym (c .before .sends .ensures) ∙ not-true _ (c .if1 .taken)))
 
 add-i : tie.Need-add-i Inv-loop μ-loop
 add-i c = omega arith

@@ -1,9 +1,9 @@
 -- `line::Line::bare` meets its contract: each of the 64 entries is the newly fitted probe of ID 0.
 use mathlib.Core.Path.{ap}
 use lib.ListN.{replicate}
+use borrow.Author.Needs.{needs}
 use Rattle.line.specs.Line.{bare}
 use Rattle.probe.specs.declared.Probe.{Probe}
-use borrow.Author.Needs.{needs}
 use Rattle.line.proofs.Line.bare.Statement.{statement}
 use Rattle.line.proofs.Line.bare.Tie as tie
 

@@ -19,8 +19,12 @@ returns-2 : tie.Need-returns-2
 unfolding fitted
 returns-2 c =
     let l = c .before .args .self in
-    let e : length (l .probes) ≡ 64 = whole (c .before) in
-    (e, omega arith, take-beyond (l .probes) 64 (l .count) (omega arith) (omega arith), drop-beyond (l .probes) 64 (l .count) (omega arith) (omega arith))
+    let e : length (l .probes) ≡ 64 = whole (c .before) in (
+      e,
+      omega arith,
+      take-beyond (l .probes) 64 (l .count) (omega arith) (omega arith),
+      drop-beyond (l .probes) 64 (l .count) (omega arith) (omega arith),
+    )
 
 pub entries-spec : {M : Type 1} → statement M
 entries-spec = tie.close (tie.spec returns returns-2)

@@ -3,9 +3,9 @@ use mathlib.Core.Path.{_≡_, sym, ap, _∙_}
 use mathlib.Core.Bool.{true, not}
 use Prim.Native.Nat.{ℕ, _≤_, _-_}
 use native.Mathlib.Omega.{arith}
+use lib.ListN.{take}
 use borrow.Author.Needs.{needs}
 use borrow.Author.Tests.{eq-eqb, ne-eqb}
-use lib.ListN.{take}
 use Rattle.line.specs.Line.{all}
 use Rattle.line.proofs.Front.{all-none, all-next, all-fails}
 use Rattle.line.proofs.Steps.{other, isFitted-all}
@@ -37,7 +37,9 @@ returns c =
     let a = c .before .before .before .before .before .before .args in
     sym
     (isFitted-all (a .id) (a .t1)
-    ∙ ap not (ap (all (other (a .id))) (sym (e .ensures .2)) ∙ all-fails (other (a .id)) (a .t1 .probes) (e .result) (l .i) _ (omega arith) (omega arith) (ap not (eq-eqb _ _ (c .if1 .taken)))))
+    ∙ ap not
+    (ap (all (other (a .id))) (sym (e .ensures .2))
+    ∙ all-fails (other (a .id)) (a .t1 .probes) (e .result) (l .i) _ (omega arith) (omega arith) (ap not (eq-eqb _ _ (c .if1 .taken)))))
 
 add-i : tie.Need-add-i Inv-loop μ-loop
 add-i c = omega arith
@@ -59,7 +61,10 @@ returns-2 c =
     let stop : l .i ≡ e .result = omega arith in
     sym
     (isFitted-all (a .id) (a .t1)
-    ∙ ap not (ap (all (other (a .id))) (sym (e .ensures .2)) ∙ ap (λ (k : ℕ). all (other (a .id)) (take k (a .t1 .probes))) (sym stop) ∙ l .inv .1))
+    ∙ ap not
+    (ap (all (other (a .id))) (sym (e .ensures .2))
+    ∙ ap (λ (k : ℕ). all (other (a .id)) (take k (a .t1 .probes))) (sym stop)
+    ∙ l .inv .1))
 
 pub is-fitted-spec : {M : Type 1} → statement M
 is-fitted-spec =

@@ -1,8 +1,8 @@
 -- `line::Line::level` meets its contract: by the bit that the bridge writes.
 use mathlib.Core.Path.{sym, ap, _∙_}
 use mathlib.Core.Bool.{Bool}
-use Rattle.line.specs.Line.{level}
 use borrow.Author.Needs.{needs}
+use Rattle.line.specs.Line.{level}
 use Rattle.line.proofs.Line.level.Statement.{statement}
 use Rattle.line.proofs.Line.level.Tie as tie
 

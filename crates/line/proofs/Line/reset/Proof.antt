@@ -45,8 +45,10 @@ loop-less c = omega arith
 loop-again : tie.Need-loop-again Inv-loop μ-loop
 loop-again c =
     let l = c .before .before .before .loop in
-    let a = c .before .before .before .before .before .args in
-    (omega arith, after-next reset (a .t1) (l .self) (l .i) _ (c .reset .result) (omega arith) (l .inv .1) (c .reset .ensures))
+    let a = c .before .before .before .before .before .args in (
+      omega arith,
+      after-next reset (a .t1) (l .self) (l .i) _ (c .reset .result) (omega arith) (l .inv .1) (c .reset .ensures),
+    )
 
 returns : tie.Need-returns Inv-loop μ-loop
 unfolding resetAll
@@ -55,7 +57,8 @@ returns c =
     let e = c .before .before .entries in
     let a = c .before .before .before .args in
     let stop : l .i ≡ e .result = omega arith in
-    l .inv .1 ∙ ap (λ (k : ℕ). after reset k (a .t1)) stop ∙ after-all reset (a .t1) (e .result) (e .ensures .2) (e .ensures .3)
+    l .inv .1 ∙ ap (λ (k : ℕ). after reset k (a .t1)) stop
+    ∙ after-all reset (a .t1) (e .result) (e .ensures .2) (e .ensures .3)
 
 pub reset-spec : {M : Type 1} → statement M
 reset-spec =

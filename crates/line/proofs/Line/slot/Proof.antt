@@ -1,9 +1,9 @@
 -- `line::Line::slot` meets its contract: the level is that of the definition, and every probe takes it.
 use mathlib.Core.Path.{ap, _∙_}
 use mathlib.Core.Bool.{Bool}
+use borrow.Author.Needs.{needs}
 use Rattle.probe.specs.Probe.{took}
 use Rattle.line.specs.Line.{level, slot, onFitted}
-use borrow.Author.Needs.{needs}
 use Rattle.line.proofs.Line.slot.Statement.{statement}
 use Rattle.line.proofs.Line.slot.Tie as tie
 

@@ -44,8 +44,10 @@ loop-less c = omega arith
 loop-again : tie.Need-loop-again Inv-loop μ-loop
 loop-again c =
     let l = c .before .before .before .loop in
-    let a = c .before .before .before .before .before .args in
-    (omega arith, after-next (took (a .level)) (a .t1) (l .self) (l .i) _ (c .took .result) (omega arith) (l .inv .1) (c .took .ensures))
+    let a = c .before .before .before .before .before .args in (
+      omega arith,
+      after-next (took (a .level)) (a .t1) (l .self) (l .i) _ (c .took .result) (omega arith) (l .inv .1) (c .took .ensures),
+    )
 
 returns : tie.Need-returns Inv-loop μ-loop
 returns c =
@@ -53,7 +55,8 @@ returns c =
     let e = c .before .before .entries in
     let a = c .before .before .before .args in
     let stop : l .i ≡ e .result = omega arith in
-    l .inv .1 ∙ ap (λ (k : ℕ). after (took (a .level)) k (a .t1)) stop ∙ after-all (took (a .level)) (a .t1) (e .result) (e .ensures .2) (e .ensures .3)
+    l .inv .1 ∙ ap (λ (k : ℕ). after (took (a .level)) k (a .t1)) stop
+    ∙ after-all (took (a .level)) (a .t1) (e .result) (e .ensures .2) (e .ensures .3)
 
 pub taken-spec : {M : Type 1} → statement M
 taken-spec =

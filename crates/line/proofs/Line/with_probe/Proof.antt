@@ -1,10 +1,10 @@
 -- `line::Line::with_probe` meets its contract by definition.
 use mathlib.Core.Path.{ap}
-use Rattle.probe.specs.declared.Probe.{Probe}
 use Prim.Native.Nat.{_+_}
 use lib.ListN.{set}
-use Rattle.line.specs.Line.{withProbe}
 use borrow.Author.Needs.{needs}
+use Rattle.probe.specs.declared.Probe.{Probe}
+use Rattle.line.specs.Line.{withProbe}
 use Rattle.line.proofs.Line.with_probe.Statement.{statement}
 use Rattle.line.proofs.Line.with_probe.Tie as tie
 

@@ -2,8 +2,8 @@
 use mathlib.Core.Path.{sym, ap, _∙_}
 use Prim.Native.Nat.{ℕ}
 use borrow.Author.Tests.{ne-eqb}
-use Rattle.probe.specs.Probe.{obeyed, inCondition}
 use borrow.Author.Needs.{needs}
+use Rattle.probe.specs.Probe.{obeyed, inCondition}
 use Rattle.probe.proofs.Probe.obeyed.Statement.{statement}
 use Rattle.probe.proofs.Probe.obeyed.Tie as tie
 

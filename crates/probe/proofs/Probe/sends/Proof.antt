@@ -1,7 +1,7 @@
 -- `probe::Probe::sends` meets its contract: by the condition.
 use mathlib.Core.Path.{sym, ap, _∙_}
-use Rattle.probe.specs.Probe.{sends, sendsIn}
 use borrow.Author.Needs.{needs}
+use Rattle.probe.specs.Probe.{sends, sendsIn}
 use Rattle.probe.proofs.Probe.sends.Statement.{statement}
 use Rattle.probe.proofs.Probe.sends.Tie as tie
 
@@ -39,7 +39,9 @@ returns-2 c = sym (ap (sendsIn (c .before .before .args .self .id)) (c .enum-tol
 
 returns-3 : tie.Need-returns-3
 unfolding sends sendsIn
-returns-3 c = c .bit .ensures ∙ sym (ap (sendsIn (c .before .before .before .before .args .self .id)) (c .before .before .condition .given .1))
+returns-3 c =
+    let p = c .before .before .before .before .args .self in
+    c .bit .ensures ∙ sym (ap (sendsIn (p .id)) (c .before .before .condition .given .1))
 
 returns-4 : tie.Need-returns-4
 unfolding sends sendsIn
@@ -47,7 +49,9 @@ returns-4 c = sym (ap (sendsIn (c .before .before .args .self .id)) (c .enum-tol
 
 returns-5 : tie.Need-returns-5
 unfolding sends sendsIn
-returns-5 c = c .sends-searching .ensures ∙ sym (ap (sendsIn (c .before .before .before .before .args .self .id)) (c .before .before .condition2 .given .1))
+returns-5 c =
+    let p = c .before .before .before .before .args .self in
+    c .sends-searching .ensures ∙ sym (ap (sendsIn (p .id)) (c .before .before .condition2 .given .1))
 
 returns-6 : tie.Need-returns-6
 unfolding sends sendsIn

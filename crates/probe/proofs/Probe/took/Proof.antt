@@ -1,8 +1,8 @@
 -- `probe::Probe::took` meets its contract: by the condition.
 use mathlib.Core.Path.{sym, ap, _∙_}
+use borrow.Author.Needs.{needs}
 use Rattle.probe.specs.declared.Condition.{Condition}
 use Rattle.probe.specs.Probe.{took, tookIn}
-use borrow.Author.Needs.{needs}
 use Rattle.probe.proofs.Probe.took.Statement.{statement}
 use Rattle.probe.proofs.Probe.took.Tie as tie
 
@@ -38,27 +38,39 @@ enum-told-2 c = search needs
 
 returns : tie.Need-returns
 unfolding took tookIn
-returns c = let a = c .before .before .args in sym (ap (λ (k : Condition). tookIn k (a .level) (a .self)) (c .enum-told .given .1))
+returns c =
+    let a = c .before .before .args in
+    sym (ap (λ (k : Condition). tookIn k (a .level) (a .self)) (c .enum-told .given .1))
 
 returns-2 : tie.Need-returns-2
 unfolding took tookIn
-returns-2 c = let a = c .before .before .before .before .args in c .took-code .ensures ∙ sym (ap (λ (k : Condition). tookIn k (a .level) (a .self)) (c .before .before .condition .given .1))
+returns-2 c =
+    let a = c .before .before .before .before .args in
+    c .took-code .ensures ∙ sym (ap (λ (k : Condition). tookIn k (a .level) (a .self)) (c .before .before .condition .given .1))
 
 returns-3 : tie.Need-returns-3
 unfolding took tookIn
-returns-3 c = let a = c .before .before .before .before .args in c .took-sending .ensures ∙ sym (ap (λ (k : Condition). tookIn k (a .level) (a .self)) (c .before .before .condition2 .given .1))
+returns-3 c =
+    let a = c .before .before .before .before .args in
+    c .took-sending .ensures ∙ sym (ap (λ (k : Condition). tookIn k (a .level) (a .self)) (c .before .before .condition2 .given .1))
 
 returns-4 : tie.Need-returns-4
 unfolding took tookIn
-returns-4 c = let a = c .before .before .before .before .args in c .took-matching .ensures ∙ sym (ap (λ (k : Condition). tookIn k (a .level) (a .self)) (c .before .before .condition3 .given .1))
+returns-4 c =
+    let a = c .before .before .before .before .args in
+    c .took-matching .ensures ∙ sym (ap (λ (k : Condition). tookIn k (a .level) (a .self)) (c .before .before .condition3 .given .1))
 
 returns-5 : tie.Need-returns-5
 unfolding took tookIn
-returns-5 c = let a = c .before .before .before .before .args in c .took-searching .ensures ∙ sym (ap (λ (k : Condition). tookIn k (a .level) (a .self)) (c .before .before .condition4 .given .1))
+returns-5 c =
+    let a = c .before .before .before .before .args in
+    c .took-searching .ensures ∙ sym (ap (λ (k : Condition). tookIn k (a .level) (a .self)) (c .before .before .condition4 .given .1))
 
 returns-6 : tie.Need-returns-6
 unfolding took tookIn
-returns-6 c = let a = c .before .before .args in sym (ap (λ (k : Condition). tookIn k (a .level) (a .self)) (c .enum-told2 .given .1))
+returns-6 c =
+    let a = c .before .before .args in
+    sym (ap (λ (k : Condition). tookIn k (a .level) (a .self)) (c .enum-told2 .given .1))
 
 pub took-spec : {M : Type 1} → statement M
 took-spec =

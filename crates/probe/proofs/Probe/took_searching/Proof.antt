@@ -1,8 +1,8 @@
 -- `probe::Probe::took_searching` meets its contract: by the slot.
 use mathlib.Core.Path.{sym, ap, _∙_}
+use borrow.Author.Needs.{needs}
 use Rattle.probe.specs.declared.Slot.{Slot}
 use Rattle.probe.specs.Probe.{tookSearching}
-use borrow.Author.Needs.{needs}
 use Rattle.probe.proofs.Probe.took_searching.Statement.{statement}
 use Rattle.probe.proofs.Probe.took_searching.Tie as tie
 
@@ -26,15 +26,21 @@ took-third-requires c κs = search needs
 
 returns : tie.Need-returns
 unfolding tookSearching
-returns c = let a = c .before .before .before .args in c .in-condition .ensures ∙ sym (ap (λ (s : Slot). tookSearching (a .bit) s (a .level) (a .self)) (c .before .enum-told .given .1))
+returns c =
+    let a = c .before .before .before .args in
+    c .in-condition .ensures ∙ sym (ap (λ (s : Slot). tookSearching (a .bit) s (a .level) (a .self)) (c .before .enum-told .given .1))
 
 returns-2 : tie.Need-returns-2
 unfolding tookSearching
-returns-2 c = let a = c .before .before .before .args in c .in-condition2 .ensures ∙ sym (ap (λ (s : Slot). tookSearching (a .bit) s (a .level) (a .self)) (c .before .enum-told2 .given .1))
+returns-2 c =
+    let a = c .before .before .before .args in
+    c .in-condition2 .ensures ∙ sym (ap (λ (s : Slot). tookSearching (a .bit) s (a .level) (a .self)) (c .before .enum-told2 .given .1))
 
 returns-3 : tie.Need-returns-3
 unfolding tookSearching
-returns-3 c = let a = c .before .before .before .args in c .took-third .ensures ∙ sym (ap (λ (s : Slot). tookSearching (a .bit) s (a .level) (a .self)) (c .before .enum-told3 .given .1))
+returns-3 c =
+    let a = c .before .before .before .args in
+    c .took-third .ensures ∙ sym (ap (λ (s : Slot). tookSearching (a .bit) s (a .level) (a .self)) (c .before .enum-told3 .given .1))
 
 pub took-searching-spec : {M : Type 1} → statement M
 took-searching-spec =

@@ -1,7 +1,8 @@
 -- `probe::Probe::took_sending` meets its contract: by whether this is the last bit.
+use native.Mathlib.Omega.{arith}
 use borrow.Author.Tests.{le-leb, lt-leb}
-use Rattle.probe.specs.Probe.{tookSending}
 use borrow.Author.Needs.{needs}
+use Rattle.probe.specs.Probe.{tookSending}
 use Rattle.probe.proofs.Probe.took_sending.Statement.{statement}
 use Rattle.probe.proofs.Probe.took_sending.Tie as tie
 
@@ -16,11 +17,11 @@ in-condition-requires-2 c κs = search needs
 
 returns : tie.Need-returns
 unfolding tookSending
-returns c = simp (le-leb _ _ (c .before .if1 .taken)) (c .in-condition .ensures)
+returns c = simp (le-leb 63 (c .before .before .args .bit) (omega arith)) (c .in-condition .ensures)
 
 returns-2 : tie.Need-returns-2
 unfolding tookSending
-returns-2 c = simp (lt-leb _ _ (c .before .if1 .left)) (c .in-condition2 .ensures)
+returns-2 c = simp (lt-leb 63 (c .before .before .args .bit) (omega arith)) (c .in-condition2 .ensures)
 
 pub took-sending-spec : {M : Type 1} → statement M
 took-sending-spec =

@@ -1,8 +1,9 @@
 -- `probe::Probe::took_third` meets its contract: by whether the level agrees and this is the last bit.
 use mathlib.Core.Path.{sym, _∙_}
+use native.Mathlib.Omega.{arith}
 use borrow.Author.Tests.{le-leb, lt-leb}
-use Rattle.probe.specs.Probe.{tookSearching}
 use borrow.Author.Needs.{needs}
+use Rattle.probe.specs.Probe.{tookSearching}
 use Rattle.probe.proofs.Probe.took_third.Statement.{statement}
 use Rattle.probe.proofs.Probe.took_third.Tie as tie
 
@@ -23,11 +24,15 @@ in-condition-requires-2 c κs = search needs
 
 returns : tie.Need-returns
 unfolding tookSearching
-returns c = simp (sym (c .before .before .before .agrees .ensures) ∙ c .before .before .if1 .taken, le-leb _ _ (c .before .if2 .taken)) (c .with-mark .ensures)
+returns c =
+    let k = c .before .before .before .before .args .bit in
+    simp (sym (c .before .before .before .agrees .ensures) ∙ c .before .before .if1 .taken, le-leb 63 k (omega arith)) (c .with-mark .ensures)
 
 returns-2 : tie.Need-returns-2
 unfolding tookSearching
-returns-2 c = simp (sym (c .before .before .before .agrees .ensures) ∙ c .before .before .if1 .taken, lt-leb _ _ (c .before .if2 .left)) (c .in-condition .ensures)
+returns-2 c =
+    let k = c .before .before .before .before .args .bit in
+    simp (sym (c .before .before .before .agrees .ensures) ∙ c .before .before .if1 .taken, lt-leb 63 k (omega arith)) (c .in-condition .ensures)
 
 returns-3 : tie.Need-returns-3
 unfolding tookSearching
