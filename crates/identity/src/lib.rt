@@ -18,6 +18,7 @@ pub const REFUSED_FAMILY: u8 = 3;
 pub fn number(bytes: &[u8; 8]) -> u64
     ensures { λ r. ⌜ r ≡ numberOf (now (bytes .entry)) ⌝ }
 {
+    // The elements of a slice are known to be bytes.
     let whole: &[u8] = bytes;
     let mut number: u64 = 0;
     let mut i: usize = 8;
@@ -39,6 +40,7 @@ pub fn bit(id: u64, k: u8) -> bool
 pub fn refusal(bytes: &[u8; 8]) -> u8
     ensures { λ r. ⌜ r ≡ refusalOf (now (bytes .entry)) ⌝ }
 {
+    // A part is taken of a slice, not of an array that is lent.
     let whole: &[u8] = bytes;
     if checksum::crc8(&whole[..7]) != bytes[7] {
         return REFUSED_CRC;

@@ -1,6 +1,6 @@
 -- The first entries of a table, over any type of entry.
 --   stepped f i l      l with f done to each of its first i entries
---   stepped-none       none yet; stepped-next, one entry more
+--   stepped-next       one entry more
 --   take-beyond, drop-beyond    a count beyond the table's end means the whole table
 --   all-none           no entry fails a test yet; all-next, one more passes it; all-fails, one fails it
 --   any-all            some entry passes a test, unless all fail it
@@ -42,9 +42,6 @@ module _ {A : Type 0} where
   abbrev pub stepped : (A → A) → ℕ → List A → List A
   stepped f i l = map f (take i l) ++ drop i l
 
-  pub stepped-none : (f : A → A) (l : List A) → stepped f 0 l ≡ l
-  stepped-none f l = refl
-
   next : (f : A → A) (l : List A) (i : ℕ) (d : A) → i < length l → set (stepped f i l) i (f (getD (stepped f i l) i d)) ≡ stepped f (suc i) l
   next f [] i d h = absurd (omega arith)
   next f (x ∷ l) zero d h = refl
@@ -67,7 +64,8 @@ module _ {A : Type 0} where
   unfolding all
   all-none f l = refl
 
-  more : (f : A → Bool) (l : List A) (i : ℕ) (d : A) → i < length l → all f (take i l) ≡ true → f (getD l i d) ≡ true → all f (take (suc i) l) ≡ true
+  more : (f : A → Bool) (l : List A) (i : ℕ) (d : A)
+      → i < length l → all f (take i l) ≡ true → f (getD l i d) ≡ true → all f (take (suc i) l) ≡ true
   unfolding all
   more f [] i d h a e = absurd (omega arith)
   more f (x ∷ l) zero d h a e = both (f x) true e refl
@@ -75,7 +73,8 @@ module _ {A : Type 0} where
       both (f x) (all f (take (suc i) l)) (first-of (f x) (all f (take i l)) a)
       (more f l i d (omega arith) (rest-of (f x) (all f (take i l)) a) e)
 
-  pub all-next : (f : A → Bool) (l : List A) (i : ℕ) (d : A) → i < length l → all f (take i l) ≡ true → f (getD l i d) ≡ true → all f (take (i + 1) l) ≡ true
+  pub all-next : (f : A → Bool) (l : List A) (i : ℕ) (d : A)
+      → i < length l → all f (take i l) ≡ true → f (getD l i d) ≡ true → all f (take (i + 1) l) ≡ true
   all-next f l i d h a e = rw add-one (more f l i d h a e)
 
   pub all-fails : (f : A → Bool) (l : List A) (k i : ℕ) (d : A) → i < k → i < length l → f (getD l i d) ≡ false → all f (take k l) ≡ false

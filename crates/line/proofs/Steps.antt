@@ -2,7 +2,8 @@
 --   after f i l      l with f done to the first i entries of its table
 --   after-next       one entry more
 --   after-all        all that are fitted
---   send-all, some-fitted    what a line sends, and whether an ID is fitted, as a test of the entries
+--   other i p        p has another ID than i
+--   isFitted-all     an ID is fitted, unless every fitted probe has another
 use mathlib.Core.Path.{_≡_, ap, ap₂, _∙_}
 use mathlib.Core.Bool.{Bool, not}
 use mathlib.Core.List.{List, _++_, map}
@@ -21,17 +22,18 @@ after f i l = record { probes = stepped f i (l .probes); count = l .count }
 abbrev pub with-entry : Line → ℕ → Probe → Line
 with-entry m i p = record { probes = set (m .probes) i p; count = m .count }
 
-pub after-next : (f : Probe → Probe) (l m : Line) (i : ℕ) (d p : Probe) → i < length (l .probes) → m ≡ after f i l → p ≡ f (getD (m .probes) i d) → with-entry m i p ≡ after f (i + 1) l
+pub after-next : (f : Probe → Probe) (l m : Line) (i : ℕ) (d p : Probe)
+    → i < length (l .probes) → m ≡ after f i l → p ≡ f (getD (m .probes) i d) → with-entry m i p ≡ after f (i + 1) l
 after-next f l m i d p h e q =
     ap₂ (λ (n : Line) (x : Probe). with-entry n i x) e (q ∙ ap (λ (n : Line). f (getD (n .probes) i d)) e)
     ∙ ap (λ (t : List Probe). record { probes = t; count = l .count }) (stepped-next f (l .probes) i d h)
 
-pub after-all : (f : Probe → Probe) (l : Line) (n : ℕ) → take n (l .probes) ≡ fitted l → drop n (l .probes) ≡ drop (l .count) (l .probes) → after f n l ≡ onFitted f l
+pub after-all : (f : Probe → Probe) (l : Line) (n : ℕ)
+    → take n (l .probes) ≡ fitted l → drop n (l .probes) ≡ drop (l .count) (l .probes) → after f n l ≡ onFitted f l
 unfolding onFitted
 after-all f l n front back =
     ap₂ (λ (s t : List Probe). record { probes = map f s ++ t; count = l .count }) front back
 
--- another ID than i
 abbrev pub other : ℕ → Probe → Bool
 other i p = not (eqb i (p .id))
 

@@ -4,10 +4,10 @@
 // take a ROM command. It keeps a mark that Match ROM and Search ROM set and Resume asks for.
 //
 // Worked example: a probe that has taken seven bits of CCh and takes a last 1 is selected.
-
 ghost use mathlib.Core.Path.{_≡_};
 ghost use Prim.Native.Nat.{_+_, _*_, _/_};
-ghost use Rattle.probe.specs.Probe.{deafNew, inCondition, withMark, sendsSearching, sends, resumed, obeyed, digit, tookCode, agrees, tookSending, tookMatching, tookSearching, took, reset};
+ghost use Rattle.probe.specs.Probe.{deafNew, inCondition, withMark, sendsSearching, sends, resumed, obeyed, reset, digit, agrees};
+ghost use Rattle.probe.specs.Probe.{tookCode, tookSending, tookMatching, tookSearching, took};
 
 // The ROM commands.
 pub const READ_ROM: u8 = 0x33;

@@ -41,7 +41,8 @@ returns c =
 element-copy-out-if2 : tie.Need-element-copy-out-if2
 element-copy-out-if2 c = search needs
 
-right-crc : (c : tie.Else1) → crc8Of (take 7 (c .before .before .before .before .before .args .bytes .now)) ≡ getD (c .before .before .before .before .before .args .bytes .now) 7 0
+right-crc : (c : tie.Else1) → crc8Of (take 7 (c .before .before .before .before .before .args .bytes .now))
+    ≡ getD (c .before .before .before .before .before .args .bytes .now) 7 0
 right-crc c = sym (c .before .before .crc8 .ensures) ∙ c .if1 .left
 
 returns-2 : tie.Need-returns-2

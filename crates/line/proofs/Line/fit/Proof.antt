@@ -25,7 +25,8 @@ right : (c : tie.Else1) → refusalOf (c .before .before .args .id .now) ≡ 0
 right c = sym (c .before .refusal .ensures) ∙ c .if1 .left
 
 -- the second test asks whether it is fitted
-asked : (c : tie.After-is-fitted) → isFitted (numberOf (c .before .before .before .before .args .id .now)) (c .before .before .before .before .args .self) ≡ c .is-fitted .result
+asked : (c : tie.After-is-fitted)
+    → isFitted (numberOf (c .before .before .before .before .args .id .now)) (c .before .before .before .before .args .self) ≡ c .is-fitted .result
 asked c =
     let l = c .before .before .before .before .args .self in
     sym (c .is-fitted .ensures ∙ ap (λ (i : ℕ). isFitted i l) (c .before .number .ensures))
