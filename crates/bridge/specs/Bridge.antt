@@ -44,7 +44,7 @@ unfoldable pub powerOn : Bridge
 powerOn = cleared 0 bare
 
 -- 1WB: a 1-Wire command is pending.
-unfoldable pub isPending : Pending → Bool
+abbrev pub isPending : Pending → Bool
 isPending Nothing = false
 isPending Reset = true
 isPending (SingleBit w) = true
@@ -52,7 +52,7 @@ isPending (WriteByte x) = true
 isPending ReadByte = true
 isPending (Triplet d) = true
 
-unfoldable pub busy : Bridge → Bool
+abbrev pub busy : Bridge → Bool
 busy b = isPending (b .pending)
 
 -- Status, bit 7 to 0: DIR, TSB, SBR, RST, LL, SD, PPD, 1WB. LL is always 1 and SD always 0.
@@ -62,7 +62,7 @@ statusOf b =
     + digit (busy b)
 
 -- Reading gives the register under the pointer; the configuration register reads with upper nibble 0.
-unfoldable pub registerOf : Pointer → Bridge → ℕ
+abbrev pub registerOf : Pointer → Bridge → ℕ
 registerOf Status b = statusOf b
 registerOf ReadData b = b .readout
 registerOf Configuration b = b .configuration % 16
@@ -73,12 +73,12 @@ readOf b = registerOf (b .pointer) b
 -- ---- the commands as they are accepted
 
 -- F0h Device Reset leaves the read-data byte and the line, and drops what is pending, of which the line has seen nothing.
-unfoldable pub deviceReset : Bridge → Bridge
+abbrev pub deviceReset : Bridge → Bridge
 deviceReset b = cleared (b .readout) (b .line)
 
--- The state with the pointer moved.
-abbrev pub pointedAt : Pointer → Bridge → Bridge
-pointedAt p b =
+-- The state with another pointer and another pending command.
+abbrev pub moved : Pointer → Pending → Bridge → Bridge
+moved p q b =
     record {
       dir = b .dir;
       tsb = b .tsb;
@@ -88,17 +88,19 @@ pointedAt p b =
       configuration = b .configuration;
       pointer = p;
       readout = b .readout;
-      pending = b .pending;
+      pending = q;
       line = b .line;
     }
 
 -- E1h Set Read Pointer: F0h status, E1h read data, C3h configuration.
-unfoldable pub setPointer : ℕ → Bridge → Bridge
-setPointer x b =
-    pointedAt (cond (eqb x 0xF0) Status (cond (eqb x 0xE1) ReadData Configuration)) b
+unfoldable pub pointerOf : ℕ → Pointer
+pointerOf x = cond (eqb x 0xF0) Status (cond (eqb x 0xE1) ReadData Configuration)
+
+abbrev pub setPointer : ℕ → Bridge → Bridge
+setPointer x b = moved (pointerOf x) (b .pending) b
 
 -- D2h Write Configuration stores the low nibble, RST becomes 0, and the pointer goes to the configuration.
-unfoldable pub configured : ℕ → Bridge → Bridge
+abbrev pub configured : ℕ → Bridge → Bridge
 configured x b =
     record {
       dir = b .dir;
@@ -114,20 +116,8 @@ configured x b =
     }
 
 -- The five 1-Wire commands become pending, move the pointer to status and set 1WB at once.
-unfoldable pub pended : Pending → Bridge → Bridge
-pended p b =
-    record {
-      dir = b .dir;
-      tsb = b .tsb;
-      sbr = b .sbr;
-      rst = b .rst;
-      ppd = b .ppd;
-      configuration = b .configuration;
-      pointer = Status;
-      readout = b .readout;
-      pending = p;
-      line = b .line;
-    }
+abbrev pub pended : Pending → Bridge → Bridge
+pended p b = moved Status p b
 
 -- 87h and 78h use bit 7 of their parameter.
 abbrev pub topBit : ℕ → Bool
@@ -232,7 +222,7 @@ finishedRead b =
     finished (b .dir) (b .tsb) (b .sbr) (b .ppd) (levels 8 (b .line)) (slotsOfOne 8 (b .line)) b
 
 -- The bit that a triplet writes. Levels 0,0: the direction asked for; 0,1: 0; 1,0 and 1,1: 1.
-unfoldable pub chosen : Bool → Bool → Bool → Bool
+abbrev pub chosen : Bool → Bool → Bool → Bool
 chosen first second d = cond first true (cond second false d)
 
 -- 78h Triplet: two write-one slots, then a write slot. SBR is the first level, TSB the second, DIR the bit written.

@@ -5,7 +5,27 @@
 //
 // Worked example: at power-on the status reads 18h. The write B4h (1-Wire Reset) is accepted, with one probe fitted the status then reads
 // 19h, and 1Ah after time has passed.
+mod checks;
+mod commands;
+mod time;
+
 use line::Line;
+ghost use mathlib.Core.Path.{_≡_};
+ghost use Prim.Native.Nat.{_*_, _≤_};
+ghost use Rattle.probe.specs.Probe.{digit};
+ghost use Rattle.line.specs.Line.{fitNumber};
+ghost use Rattle.bridge.specs.Bridge.{powerOn, statusOf, readOf, writeNumber, afterWrite, afterTime, afterFitting};
+
+// The refusals of a write, by their numbers in the table of document 01; 0 is done.
+pub const DONE: u8 = 0;
+
+pub const REFUSED_UNKNOWN: u8 = 5;
+
+pub const REFUSED_BUSY: u8 = 6;
+
+pub const REFUSED_LENGTH: u8 = 7;
+
+pub const REFUSED_PARAMETER: u8 = 8;
 
 // The register that a read gives.
 pub enum Pointer {
@@ -36,4 +56,125 @@ pub struct Bridge {
     pub readout: u8,
     pub pending: Pending,
     pub line: Line,
+}
+
+// What a write or a fitting answers: its number, and the bridge afterwards.
+pub struct Answer {
+    pub number: u8,
+    pub bridge: Bridge,
+}
+
+// What a bit adds to a register where it stands for the weight.
+fn weighed(bit: bool, weight: u8) -> u8
+    ensures { λ r. ⌜ (r ≡ digit bit * weight) × (r ≤ weight) ⌝ }
+{
+    if bit { weight } else { 0 }
+}
+
+impl Bridge {
+    // The command codes.
+    pub const DEVICE_RESET: u8 = 0xF0;
+
+    pub const SET_READ_POINTER: u8 = 0xE1;
+
+    pub const WRITE_CONFIGURATION: u8 = 0xD2;
+
+    pub const ONE_WIRE_RESET: u8 = 0xB4;
+
+    pub const SINGLE_BIT: u8 = 0x87;
+
+    pub const WRITE_BYTE: u8 = 0xA5;
+
+    pub const READ_BYTE: u8 = 0x96;
+
+    pub const TRIPLET: u8 = 0x78;
+
+    // The pointer codes.
+    pub const POINTER_STATUS: u8 = 0xF0;
+
+    pub const POINTER_READ_DATA: u8 = 0xE1;
+
+    pub const POINTER_CONFIGURATION: u8 = 0xC3;
+
+    // The configuration bytes: active pull-up off and on. The upper nibble is the complement of the lower one, which is stored.
+    pub const PULL_UP_PASSIVE: u8 = 0xF0;
+
+    pub const PULL_UP_ACTIVE: u8 = 0xE1;
+
+    // The state at power-on: no probe is fitted and the status reads 18h.
+    pub fn power_on() -> Bridge
+        ensures { λ r. ⌜ r ≡ powerOn ⌝ }
+    {
+        Bridge::cleared(0, Line::bare())
+    }
+
+    // A write of any bytes. A refused one leaves the bridge as it was.
+    pub fn write(self, bytes: &[u8]) -> Answer
+        ensures { λ r. ⌜ (r .number ≡ writeNumber (now (bytes .entry)) self) × (r .bridge ≡ afterWrite (now (bytes .entry)) self) ⌝ }
+    {
+        let number = self.write_number(bytes);
+        if number == DONE {
+            let bridge = self.obeyed(checks::byte_at(bytes, 0), checks::byte_at(bytes, 1));
+            return Answer { number, bridge };
+        }
+        Answer {
+            number,
+            bridge: self,
+        }
+    }
+
+    fn status(self) -> u8
+        ensures { λ r. ⌜ r ≡ statusOf self ⌝ }
+    {
+        let busy = self.busy();
+        weighed(self.dir, 128)
+            + weighed(self.tsb, 64)
+            + weighed(self.sbr, 32)
+            + weighed(self.rst, 16)
+            + 8
+            + weighed(self.ppd, 2)
+            + weighed(busy, 1)
+    }
+
+    // What a read gives. It changes nothing.
+    pub fn read(self) -> u8
+        ensures { λ r. ⌜ r ≡ readOf self ⌝ }
+    {
+        let pointer = self.pointer;
+        match pointer {
+            Pointer::Status => self.status(),
+            Pointer::ReadData => self.readout,
+            Pointer::Configuration => self.configuration % 16,
+        }
+    }
+
+    // Time passes: what is pending has its effect.
+    pub fn wait(self) -> Bridge
+        ensures { λ r. ⌜ r ≡ afterTime self ⌝ }
+    {
+        let pending = self.pending;
+        match pending {
+            Pending::Nothing => self,
+            Pending::Reset => self.finished_reset(),
+            Pending::SingleBit { bit } => self.finished_bit(bit),
+            Pending::WriteByte { byte } => self.finished_write(byte),
+            Pending::ReadByte => self.finished_read(),
+            Pending::Triplet { direction } => self.finished_triplet(direction),
+        }
+    }
+
+    // A probe is fitted, deaf and unmarked. A refused one leaves the bridge as it was; nothing pending is in the way.
+    pub fn fit(self, id: &[u8; 8]) -> Answer
+        ensures { λ r. ⌜ (r .number ≡ fitNumber (now (id .entry)) (self .line)) × (r .bridge ≡ afterFitting (now (id .entry)) self) ⌝ }
+    {
+        let before = self.line;
+        let fitting = before.fit(id);
+        let after = fitting.line;
+        let mut bridge = self;
+        bridge.line = after;
+        Answer {
+            number: fitting.number,
+            bridge,
+        }
+    }
 }

@@ -1,0 +1,18 @@
+-- `Bridge::finished_bit` meets its contract, by those of the line and of `finished`.
+use Rattle.bridge.specs.Bridge.{finishedBit}
+use borrow.Author.Needs.{needs}
+use Rattle.bridge.proofs.Bridge.finished_bit.Statement.{statement}
+use Rattle.bridge.proofs.Bridge.finished_bit.Tie as tie
+
+slot-requires : tie.Need-slot-requires
+slot-requires c κs = search needs
+
+finished-requires : tie.Need-finished-requires
+finished-requires c κs = search needs
+
+returns : tie.Need-returns
+unfolding finishedBit
+returns c = cc
+
+pub finished-bit-spec : {M : Type 1} → statement M
+finished-bit-spec = tie.close (tie.spec slot-requires finished-requires returns)

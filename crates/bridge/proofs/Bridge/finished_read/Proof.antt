@@ -1,0 +1,18 @@
+-- `Bridge::finished_read` meets its contract, by those of the slots and of `finished`.
+use Rattle.bridge.specs.Bridge.{finishedRead}
+use borrow.Author.Needs.{needs}
+use Rattle.bridge.proofs.Bridge.finished_read.Statement.{statement}
+use Rattle.bridge.proofs.Bridge.finished_read.Tie as tie
+
+read-slots-requires : tie.Need-read-slots-requires
+read-slots-requires c κs = search needs
+
+finished-requires : tie.Need-finished-requires
+finished-requires c κs = search needs
+
+returns : tie.Need-returns
+unfolding finishedRead
+returns c = cc
+
+pub finished-read-spec : {M : Type 1} → statement M
+finished-read-spec = tie.close (tie.spec read-slots-requires finished-requires returns)

@@ -1,0 +1,22 @@
+-- `Bridge::finished_reset` meets its contract, by those of the line and of `finished`.
+use Rattle.bridge.specs.Bridge.{finishedReset}
+use borrow.Author.Needs.{needs}
+use Rattle.bridge.proofs.Bridge.finished_reset.Statement.{statement}
+use Rattle.bridge.proofs.Bridge.finished_reset.Tie as tie
+
+present-requires : tie.Need-present-requires
+present-requires c κs = search needs
+
+reset-requires : tie.Need-reset-requires
+reset-requires c κs = search needs
+
+finished-requires : tie.Need-finished-requires
+finished-requires c κs = search needs
+
+returns : tie.Need-returns
+unfolding finishedReset
+returns c = cc
+
+pub finished-reset-spec : {M : Type 1} → statement M
+finished-reset-spec =
+    tie.close (tie.spec present-requires reset-requires finished-requires returns)

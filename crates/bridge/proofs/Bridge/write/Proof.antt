@@ -1,0 +1,46 @@
+-- `Bridge::write` meets its contract: the number decides whether the write is obeyed.
+use mathlib.Core.Path.{sym, ap₂, _∙_}
+use Prim.Native.Nat.{ℕ}
+use Rattle.bridge.specs.Bridge.{obeyed}
+use Rattle.bridge.proofs.Writes.{afterWrite-done, afterWrite-refused}
+use borrow.Author.Needs.{needs}
+use Rattle.bridge.proofs.Bridge.write.Statement.{statement}
+use Rattle.bridge.proofs.Bridge.write.Tie as tie
+
+write-number-requires : tie.Need-write-number-requires
+write-number-requires c κs = search needs
+
+byte-at-requires : tie.Need-byte-at-requires
+byte-at-requires c κs = search needs
+
+byte-at-requires-2 : tie.Need-byte-at-requires-2
+byte-at-requires-2 c κs = search needs
+
+obeyed-requires : tie.Need-obeyed-requires
+obeyed-requires c κs = search needs
+
+returns : tie.Need-returns
+returns c =
+    let n = c .before .before .before in (
+      n .before .write-number .ensures,
+      c .obeyed .ensures
+          ∙ ap₂ (λ (k x : ℕ). obeyed k x (n .before .before .before .args .self)) (c .before .before .byte-at .ensures) (c .before .byte-at2 .ensures)
+          ∙ sym (afterWrite-done _ _ (sym (n .before .write-number .ensures) ∙ n .if1 .taken)),
+    )
+
+returns-2 : tie.Need-returns-2
+returns-2 c = (
+  c .before .write-number .ensures,
+  sym (afterWrite-refused _ _ (λ e. c .if1 .left (c .before .write-number .ensures ∙ e))),
+)
+
+pub write-spec : {M : Type 1} → statement M
+write-spec =
+    tie.close
+    (tie.spec
+    write-number-requires
+    byte-at-requires
+    byte-at-requires-2
+    obeyed-requires
+    returns
+    returns-2)

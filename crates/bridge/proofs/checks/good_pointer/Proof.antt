@@ -1,0 +1,24 @@
+-- `checks::good_pointer` meets its contract, code by code.
+use Rattle.bridge.specs.Bridge.{goodParameter}
+use borrow.Author.Tests.{ne-eqb}
+use Rattle.bridge.proofs.checks.good_pointer.Statement.{statement}
+use Rattle.bridge.proofs.checks.good_pointer.Tie as tie
+
+returns : tie.Need-returns
+unfolding goodParameter
+returns c = cc
+
+returns-2 : tie.Need-returns-2
+unfolding goodParameter
+returns-2 c = cc
+
+returns-3 : tie.Need-returns-3
+unfolding goodParameter
+returns-3 c = cc
+
+returns-4 : tie.Need-returns-4
+unfolding goodParameter
+returns-4 c = simp (ne-eqb _ _ (c .match .rest .0 .0 .1), ne-eqb _ _ (c .match .rest .0 .1), ne-eqb _ _ (c .match .rest .1))
+
+pub good-pointer-spec : {M : Type 1} → statement M
+good-pointer-spec = tie.close (tie.spec returns returns-2 returns-3 returns-4)

@@ -1,0 +1,129 @@
+// The checks of a write, in their order: no bytes at all, unknown code, busy, wrong number of bytes, bad parameter.
+use crate::Bridge;
+use crate::DONE;
+use crate::Pending;
+use crate::REFUSED_BUSY;
+use crate::REFUSED_LENGTH;
+use crate::REFUSED_PARAMETER;
+use crate::REFUSED_UNKNOWN;
+ghost use mathlib.Core.Path.{_≡_};
+ghost use mathlib.Core.Bool.{cond, true, false};
+ghost use lib.ListN.{getD};
+ghost use Rattle.bridge.specs.Bridge.{busy as busyOf, bytesOf, takenWhileBusy, goodParameter, writeNumber};
+
+// The byte at a place of a write, 0 behind its end.
+pub fn byte_at(bytes: &[u8], i: usize) -> u8
+    ensures { λ r. ⌜ r ≡ getD (now (bytes .entry)) i 0 ⌝ }
+{
+    if i < bytes.len() { bytes[i] } else { 0 }
+}
+
+// How many bytes the command has in all; 0 for a code that is unknown.
+fn bytes_of(code: u8) -> usize
+    ensures { λ r. ⌜ r ≡ bytesOf code ⌝ }
+{
+    match code {
+        Bridge::DEVICE_RESET => 1,
+        Bridge::SET_READ_POINTER => 2,
+        Bridge::WRITE_CONFIGURATION => 2,
+        Bridge::ONE_WIRE_RESET => 1,
+        Bridge::SINGLE_BIT => 2,
+        Bridge::WRITE_BYTE => 2,
+        Bridge::READ_BYTE => 1,
+        Bridge::TRIPLET => 2,
+        _ => 0,
+    }
+}
+
+fn taken_while_busy(code: u8) -> bool
+    ensures { λ r. ⌜ r ≡ takenWhileBusy code ⌝ }
+{
+    match code {
+        Bridge::DEVICE_RESET => true,
+        Bridge::SET_READ_POINTER => true,
+        _ => false,
+    }
+}
+
+fn good_pointer(x: u8) -> bool
+    ensures { λ r. ⌜ r ≡ goodParameter 0xE1 x ⌝ }
+{
+    match x {
+        Bridge::POINTER_STATUS => true,
+        Bridge::POINTER_READ_DATA => true,
+        Bridge::POINTER_CONFIGURATION => true,
+        _ => false,
+    }
+}
+
+fn good_configuration(x: u8) -> bool
+    ensures { λ r. ⌜ r ≡ goodParameter 0xD2 x ⌝ }
+{
+    match x {
+        Bridge::PULL_UP_PASSIVE => true,
+        Bridge::PULL_UP_ACTIVE => true,
+        _ => false,
+    }
+}
+
+fn good_parameter(code: u8, x: u8) -> bool
+    ensures { λ r. ⌜ r ≡ goodParameter code x ⌝ }
+{
+    match code {
+        Bridge::SET_READ_POINTER => good_pointer(x),
+        Bridge::WRITE_CONFIGURATION => good_configuration(x),
+        _ => true,
+    }
+}
+
+impl Bridge {
+    // 1WB: a 1-Wire command is pending.
+    pub(crate) fn busy(self) -> bool
+        ensures { λ r. ⌜ r ≡ busyOf self ⌝ }
+    {
+        let pending = self.pending;
+        match pending {
+            Pending::Nothing => false,
+            Pending::Reset => true,
+            Pending::SingleBit { bit: _ } => true,
+            Pending::WriteByte { byte: _ } => true,
+            Pending::ReadByte => true,
+            Pending::Triplet { direction: _ } => true,
+        }
+    }
+
+    // The bridge is busy and the command is one that has to wait.
+    fn held_up(self, code: u8) -> bool
+        ensures { λ r. ⌜ r ≡ cond (busyOf self) (cond (takenWhileBusy code) false true) false ⌝ }
+    {
+        if self.busy() {
+            if taken_while_busy(code) { false } else { true }
+        } else {
+            false
+        }
+    }
+
+    pub(crate) fn write_number(self, bytes: &[u8]) -> u8
+        ensures { λ r. ⌜ r ≡ writeNumber (now (bytes .entry)) self ⌝ }
+    {
+        if bytes.len() == 0 {
+            return REFUSED_LENGTH;
+        }
+        let code = bytes[0];
+        let wanted = bytes_of(code);
+        if wanted == 0 {
+            return REFUSED_UNKNOWN;
+        }
+        if self.held_up(code) {
+            return REFUSED_BUSY;
+        }
+        if bytes.len() != wanted {
+            return REFUSED_LENGTH;
+        }
+        if good_parameter(code, byte_at(bytes, 1)) {
+            DONE
+        } else {
+            REFUSED_PARAMETER
+        }
+    }
+}
