@@ -1,0 +1,59 @@
+// The probes, as the fields of the bridge's line have them.
+use crate::say;
+use bridge::Bridge;
+use line::Line;
+use probe::Condition;
+use probe::Probe;
+use probe::Slot;
+
+fn slot(s: Slot) {
+    match s {
+        Slot::First => say::text(b", first slot"),
+        Slot::Second => say::text(b", second slot"),
+        Slot::Third => say::text(b", third slot"),
+    }
+}
+
+fn condition(c: Condition) {
+    match c {
+        Condition::Deaf => say::text(b"deaf"),
+        Condition::Taking { count, code: _ } => {
+            say::text(b"taking a code, bits so far ");
+            say::number(count);
+        }
+        Condition::Sending { bit } => {
+            say::text(b"sending bit ");
+            say::number(bit);
+        }
+        Condition::Matching { bit } => {
+            say::text(b"matching bit ");
+            say::number(bit);
+        }
+        Condition::Searching { bit, slot: s } => {
+            say::text(b"searching bit ");
+            say::number(bit);
+            slot(s);
+        }
+        Condition::Selected => say::text(b"selected"),
+    }
+}
+
+fn at(line: Line, i: usize) -> Probe {
+    line.probes[i % 64]
+}
+
+// The probe at a place of the line, from 0.
+pub fn probe(bridge: Bridge, i: usize) {
+    let line = bridge.line;
+    let p = at(line, i);
+    say::text(b"probe ");
+    say::byte((p.id % 256) as u8);
+    say::byte((p.id / 256 % 256) as u8);
+    say::text(b": ");
+    let c = p.condition;
+    condition(c);
+    if p.marked {
+        say::text(b", marked");
+    }
+    say::end();
+}
