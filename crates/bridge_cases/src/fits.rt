@@ -12,18 +12,21 @@ const ZERO: [u8; 8] = [0; 8];
 const WRONG_ZERO: [u8; 8] = [0, 0, 0, 0, 0, 0, 0, 1];
 
 pub fn refusals() {
-    say::text(b"-- fitting: CRC, family 00, fitted already; a pending command is not in the way\n");
-    let b = acts::fit(Bridge::power_on(), &WRONG);
-    let b = acts::fit(b, &WRONG_ZERO);
-    let b = acts::fit(b, &ZERO);
-    let b = acts::fit(b, &A);
-    let b = acts::fit(b, &A);
-    let b = acts::fit(b, &WRONG);
-    let b = acts::write(b, b"\xB4");
-    let b = acts::fit(b, &B);
+    say::text(b"-- fitting: the CRC, then family 00, then an ID that is fitted already\n");
+    let mut b = acts::fit(Bridge::power_on(), &WRONG);
+    b = acts::fit(b, &WRONG_ZERO);
+    b = acts::fit(b, &ZERO);
+    b = acts::fit(b, &A);
+    b = acts::fit(b, &A);
+    acts::fit(b, &WRONG);
+}
+
+pub fn pending() {
+    say::text(b"-- a pending command is not in the way\n");
+    let mut b = acts::write(Bridge::power_on(), b"\xB4");
+    b = acts::fit(b, &B);
     acts::read(b);
-    let b = acts::wait(b);
-    acts::read(b);
+    acts::read(acts::wait(b));
 }
 
 // The ID of family 19h with this serial number.
@@ -51,14 +54,13 @@ fn with_63() -> Bridge {
 }
 
 pub fn full() {
-    say::text(b"-- a 64th probe and a 65th\n");
-    let b = with_63();
+    say::text(b"-- a 64th probe and a 65th; the other refusals come first\n");
     let last = of_serial(64);
     let more = of_serial(65);
-    let b = acts::fit(b, &last);
-    let b = acts::fit(b, &more);
-    let b = acts::fit(b, &last);
-    let b = acts::fit(b, &WRONG);
-    let b = acts::command(b, b"\xB4");
+    let mut b = acts::fit(with_63(), &last);
+    b = acts::fit(b, &more);
+    b = acts::fit(b, &last);
+    b = acts::fit(b, &WRONG);
+    b = acts::command(b, b"\xB4");
     acts::command(b, b"\xA5\x33");
 }

@@ -8,19 +8,43 @@ mod say;
 mod show;
 mod writes;
 
-fn main() {
-    writes::registers();
-    writes::refusals();
-    writes::while_busy();
+fn all_writes() {
+    writes::power_on();
+    writes::configuration();
+    writes::unknown();
+    writes::lengths();
+    writes::wire_lengths();
+    writes::parameters();
+    writes::busy();
+    writes::busy_wire();
+    writes::busy_taken();
     writes::dropped();
     writes::pointer();
     writes::single_bits();
+}
+
+fn all_probes() {
     probes::presence();
+    probes::late();
     probes::read_rom();
+    probes::read_rom_of_two();
     probes::match_rom();
+    probes::marks_kept();
+    probes::marks_cleared();
     probes::search_rom();
     probes::triplets();
+    probes::forced();
     probes::whole_pass();
+}
+
+fn all_fits() {
     fits::refusals();
+    fits::pending();
     fits::full();
+}
+
+fn main() {
+    all_writes();
+    all_probes();
+    all_fits();
 }
