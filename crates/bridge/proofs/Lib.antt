@@ -1,2 +1,5 @@
 pub mod Writes
 pub mod Slots
+pub mod Effects
+pub mod Reach
+pub mod Cases
