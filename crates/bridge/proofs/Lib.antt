@@ -3,3 +3,4 @@ pub mod Slots
 pub mod Effects
 pub mod Reach
 pub mod Cases
+pub mod Unique

@@ -5,7 +5,7 @@ use Prim.Native.Nat.{ℕ}
 use Rattle.line.specs.declared.Line.{Line}
 use Rattle.line.specs.declared.Slotted.{Slotted}
 use Rattle.line.specs.declared.Fitting.{Fitting}
-use Rattle.identity.proofs.Unique.{OneAnswer}
+use Rattle.checksum.proofs.Unique.{OneAnswer}
 use Rattle.line.proofs.Line.bare.Reads as bare
 use Rattle.line.proofs.Line.present.Reads as present
 use Rattle.line.proofs.Line.slot.Reads as slot

@@ -1,6 +1,6 @@
 -- Each contract leaves one answer for each argument.
 use mathlib.Core.Path.{sym, _∙_}
-use Rattle.identity.proofs.Unique.{OneAnswer}
+use Rattle.checksum.proofs.Unique.{OneAnswer}
 use Rattle.probe.proofs.Probe.newly_fitted.Reads as newly-fitted
 use Rattle.probe.proofs.Probe.sends.Reads as sends
 use Rattle.probe.proofs.Probe.took.Reads as took
