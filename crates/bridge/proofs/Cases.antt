@@ -1,15 +1,16 @@
 -- The cases P9, P10 and P11 of document 01, "Tried on paper", of the definitions.
 --   withOne x      the bridge at power-on with the one probe of the ID x
 --   ready x        it, after D2h F0h, a 1-Wire reset and its time
-use mathlib.Core.Path.{_≡_, refl, ap, _∙_}
+use mathlib.Core.Path.{_≡_, refl, sym, ap, _∙_}
 use mathlib.Core.Bool.{false}
 use mathlib.Core.List.{List, [], _∷_}
 use Prim.Native.Nat.{ℕ}
+use lib.Dec.{lit<}
 use Rattle.identity.specs.Identity.{numberOf, refusalOf}
 use Rattle.probe.specs.Probe.{sends, sendsIn, took, tookIn, tookCode}
 use Rattle.line.specs.declared.Line.{Line}
 use Rattle.line.specs.Line.{bare, fitted, idsOf, isFitted, any, all, level, slot, onFitted, resetAll, present, placeNumber, withProbe, afterFit}
-use Rattle.line.proofs.Places.{fitNumber-place, afterFit-done}
+use Rattle.line.proofs.Places.{fitNumber-free, afterFit-done}
 use Rattle.bridge.specs.declared.Bridge.{Bridge}
 use Rattle.bridge.specs.Bridge.{powerOn, statusOf, readOf, busy, bytesOf, takenWhileBusy, goodParameter, writeNumber, afterWrite, obeyed, onLine}
 use Rattle.bridge.specs.Bridge.{finishedReset, finishedTriplet, finishedOf, afterTime, afterFitting, command}
@@ -40,7 +41,7 @@ ready x = command (0xB4 ∷ []) (afterWrite (0xD2 ∷ 0xF0 ∷ []) (withOne x))
 -- an accepted ID on the bare line
 one-fitted : (x : List ℕ) → refusalOf x ≡ 0 → afterFit x bare ≡ withProbe (numberOf x) bare
 unfolding placeNumber isFitted idsOf fitted any bare
-one-fitted x e = afterFit-done x bare (fitNumber-place x bare e)
+one-fitted x e = sym (afterFit-done x bare (fitNumber-free x bare e refl (lit< tt)))
 
 pub p10 : (x : List ℕ) → refusalOf x ≡ 0 → readOf (ready x) ≡ 0x0A
 unfolding ready withOne afterFitting powerOn bare withProbe command afterTime finishedOf afterWrite writeNumber bytesOf goodParameter obeyed finishedReset present resetAll onFitted fitted readOf statusOf

@@ -1,0 +1,85 @@
+-- Every case of the table holds. Most compute.
+use Prim.Native.Nat.{ℕ, zero, suc, _<_}
+use mathlib.Core.List.{List, [], _∷_}
+use mathlib.Core.Path.{_≡_, refl}
+use mathlib.Core.Bool.{false}
+use native.Mathlib.Omega.{arith}
+use Rattle.checksum.specs.Register.{crc8Of, crc16Of, crcFrom, entered, shifts, shifted, taps, taps8, taps16}
+use Rattle.identity.specs.Identity.{numberOf, bitOf, crcRight, familyOf, refusalOf, Before}
+use Rattle.packet.specs.declared.Reading.the-variants.{Refused}
+use Rattle.packet.specs.Request.{read, bodyOf, invertedOf, sealOf, packetOf}
+use Rattle.packet.specs.Reading.{readForm, formOf, isSealed, checked, readingOf}
+use Rattle.bridge.specs.Bridge.{powerOn, busy}
+use Rattle.bridge.proofs.Cases.{p9-refused, p9-accepted, p9-read, p10, p11}
+use Rattle.paper.specs.Paper.{Paper, a, b, c}
+
+p1 : crc8Of (0x02 ∷ 0x1C ∷ 0xB8 ∷ 0x01 ∷ 0 ∷ 0 ∷ 0 ∷ []) ≡ 0xA2
+unfolding crc8Of crcFrom entered shifts shifted taps8 taps
+p1 = refl
+
+p2 : crc8Of (0x19 ∷ 0x01 ∷ 0 ∷ 0 ∷ 0 ∷ 0 ∷ 0 ∷ []) ≡ 0x00
+unfolding crc8Of crcFrom entered shifts shifted taps8 taps
+p2 = refl
+
+p3 : crc8Of (0x19 ∷ 0x02 ∷ 0 ∷ 0 ∷ 0 ∷ 0 ∷ 0 ∷ []) ≡ 0x59
+unfolding crc8Of crcFrom entered shifts shifted taps8 taps
+p3 = refl
+
+p4 : refusalOf (0 ∷ 0 ∷ 0 ∷ 0 ∷ 0 ∷ 0 ∷ 0 ∷ 0 ∷ []) ≡ 3
+unfolding refusalOf crcRight familyOf crc8Of crcFrom entered shifts shifted taps8 taps
+p4 = refl
+
+-- B and A are alike in the eight bits of their family
+alike : (k : ℕ) → k < 8 → bitOf (numberOf b) k ≡ bitOf (numberOf a) k
+unfolding bitOf numberOf
+alike zero h = refl
+alike (suc zero) h = refl
+alike (suc (suc zero)) h = refl
+alike (suc (suc (suc zero))) h = refl
+alike (suc (suc (suc (suc zero)))) h = refl
+alike (suc (suc (suc (suc (suc zero))))) h = refl
+alike (suc (suc (suc (suc (suc (suc zero)))))) h = refl
+alike (suc (suc (suc (suc (suc (suc (suc zero))))))) h = refl
+alike (suc (suc (suc (suc (suc (suc (suc (suc k)))))))) h = absurd (omega arith)
+
+c-before-b : Before (numberOf c) (numberOf b)
+unfolding bitOf numberOf
+c-before-b =
+    record { place = 0; within = omega arith; alike = λ k h. absurd (omega arith); first = refl; second = refl }
+
+b-before-a : Before (numberOf b) (numberOf a)
+unfolding bitOf numberOf
+b-before-a = record { place = 8; within = omega arith; alike = alike; first = refl; second = refl }
+
+p6 : packetOf (read 0x20 2) ≡ 0x87 ∷ 0x41 ∷ 0x02 ∷ 0xFE ∷ 0x47 ∷ []
+unfolding packetOf bodyOf sealOf invertedOf crc16Of crcFrom entered shifts shifted taps16 taps
+p6 = refl
+
+p7 : readingOf (0x87 ∷ 0x41 ∷ 0x02 ∷ 0xFE ∷ 0x46 ∷ []) ≡ Refused 14
+unfolding readingOf checked formOf readForm isSealed invertedOf crc16Of crcFrom entered shifts shifted taps16 taps
+p7 = refl
+
+p8 : (x y : ℕ) → readingOf (0x87 ∷ 0x41 ∷ 0x00 ∷ x ∷ y ∷ []) ≡ Refused 13
+unfolding readingOf checked formOf readForm
+p8 x y = refl
+
+-- nothing is pending at power-on
+free : busy powerOn ≡ false
+unfolding powerOn
+free = refl
+
+pub paper : Paper
+paper =
+    record {
+      p1 = p1;
+      p2 = p2;
+      p3 = p3;
+      p4 = p4;
+      p5 = (c-before-b, b-before-a);
+      p6 = p6;
+      p7 = p7;
+      p8 = p8;
+      p9 = (p9-refused powerOn free, p9-accepted powerOn free, p9-read powerOn free);
+      p10 = p10;
+      p11 = p11;
+    }
