@@ -1,11 +1,11 @@
 // The checks of a write, in their order: no bytes at all, unknown code, busy, wrong number of bytes, bad parameter.
 use crate::Bridge;
-use crate::DONE;
 use crate::Pending;
 use crate::REFUSED_BUSY;
 use crate::REFUSED_LENGTH;
 use crate::REFUSED_PARAMETER;
 use crate::REFUSED_UNKNOWN;
+use line::DONE;
 ghost use mathlib.Core.Path.{_≡_};
 ghost use mathlib.Core.Bool.{cond, true, false};
 ghost use lib.ListN.{getD};

@@ -9,6 +9,7 @@ mod checks;
 mod commands;
 mod time;
 
+use line::DONE;
 use line::Line;
 ghost use mathlib.Core.Path.{_≡_};
 ghost use Prim.Native.Nat.{_*_, _≤_};
@@ -16,9 +17,7 @@ ghost use Rattle.probe.specs.Probe.{digit};
 ghost use Rattle.line.specs.Line.{fitNumber};
 ghost use Rattle.bridge.specs.Bridge.{powerOn, statusOf, readOf, writeNumber, afterWrite, afterTime, afterFitting};
 
-// The refusals of a write, by their numbers in the table of document 01; 0 is done.
-pub const DONE: u8 = 0;
-
+// The refusals of a write, by their numbers in the table of document 01.
 pub const REFUSED_UNKNOWN: u8 = 5;
 
 pub const REFUSED_BUSY: u8 = 6;

@@ -12,7 +12,8 @@ finished-requires c κs = search needs
 
 returns : tie.Need-returns
 unfolding finishedRead
-returns c = cc
+returns c =
+    let s = c .before .before .read-slots .ensures in simp (c .finished .ensures, s .0, s .1)
 
 pub finished-read-spec : {M : Type 1} → statement M
 finished-read-spec = tie.close (tie.spec read-slots-requires finished-requires returns)

@@ -15,7 +15,7 @@ finished-requires c κs = search needs
 
 returns : tie.Need-returns
 unfolding finishedReset
-returns c = cc
+returns c = simp (c .finished .ensures, c .before .reset .ensures, c .before .before .present .ensures)
 
 pub finished-reset-spec : {M : Type 1} → statement M
 finished-reset-spec =

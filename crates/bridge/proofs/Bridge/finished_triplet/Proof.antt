@@ -21,7 +21,19 @@ finished-requires c κs = search needs
 
 returns : tie.Need-returns
 unfolding finishedTriplet
-returns c = cc
+returns c =
+    let third = c .before .before in
+    let second = third .before .before .before in
+    let first = second .before .before in
+    simp (
+      c .finished .ensures,
+      third .slot3 .ensures .1,
+      third .before .chosen .ensures,
+      second .slot2 .ensures .0,
+      second .slot2 .ensures .1,
+      first .slot .ensures .0,
+      first .slot .ensures .1,
+    )
 
 pub finished-triplet-spec : {M : Type 1} → statement M
 finished-triplet-spec =

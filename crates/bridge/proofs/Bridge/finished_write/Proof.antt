@@ -12,7 +12,7 @@ finished-requires c κs = search needs
 
 returns : tie.Need-returns
 unfolding finishedWrite
-returns c = cc
+returns c = simp (c .finished .ensures, c .before .written .ensures)
 
 pub finished-write-spec : {M : Type 1} → statement M
 finished-write-spec = tie.close (tie.spec written-requires finished-requires returns)

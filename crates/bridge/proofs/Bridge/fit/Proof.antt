@@ -9,7 +9,7 @@ fit-requires c κs = search needs
 
 returns : tie.Need-returns
 unfolding afterFitting
-returns c = (c .before .fit .ensures .0, cc)
+returns c = (simp (c .before .fit .ensures .0), simp (c .before .fit .ensures .1))
 
 pub fit-spec : {M : Type 1} → statement M
 fit-spec = tie.close (tie.spec fit-requires returns)

@@ -53,7 +53,7 @@ returns-4 c = simp (c .before .match .keys4) (c .pended .ensures)
 
 returns-5 : tie.Need-returns-5
 unfolding obeyed
-returns-5 c = simp (c .before .before .match .keys5) (cc)
+returns-5 c = simp (c .before .before .match .keys5, c .pended2 .ensures, c .before .top-bit .ensures)
 
 returns-6 : tie.Need-returns-6
 unfolding obeyed
@@ -65,7 +65,19 @@ returns-7 c = simp (c .before .match .keys7) (c .pended4 .ensures)
 
 returns-8 : tie.Need-returns-8
 unfolding obeyed
-returns-8 c = simp (ne-eqb _ _ (c .before .before .match .rest .0 .0 .0 .0 .0 .0 .1), ne-eqb _ _ (c .before .before .match .rest .0 .0 .0 .0 .0 .1), ne-eqb _ _ (c .before .before .match .rest .0 .0 .0 .0 .1), ne-eqb _ _ (c .before .before .match .rest .0 .0 .0 .1), ne-eqb _ _ (c .before .before .match .rest .0 .0 .1), ne-eqb _ _ (c .before .before .match .rest .0 .1), ne-eqb _ _ (c .before .before .match .rest .1)) (cc)
+returns-8 c =
+    let r = c .before .before .match .rest in
+    simp (
+      ne-eqb _ _ (r .0 .0 .0 .0 .0 .0 .1),
+      ne-eqb _ _ (r .0 .0 .0 .0 .0 .1),
+      ne-eqb _ _ (r .0 .0 .0 .0 .1),
+      ne-eqb _ _ (r .0 .0 .0 .1),
+      ne-eqb _ _ (r .0 .0 .1),
+      ne-eqb _ _ (r .0 .1),
+      ne-eqb _ _ (r .1),
+      c .pended5 .ensures,
+      c .before .top-bit2 .ensures,
+    )
 
 pub obeyed-spec : {M : Type 1} → statement M
 obeyed-spec =

@@ -12,7 +12,7 @@ cleared-requires c κs = search needs
 
 returns : tie.Need-returns
 unfolding powerOn
-returns c = cc
+returns c = simp (c .cleared .ensures, c .before .bare .ensures)
 
 pub power-on-spec : {M : Type 1} → statement M
 power-on-spec = tie.close (tie.spec bare-requires cleared-requires returns)

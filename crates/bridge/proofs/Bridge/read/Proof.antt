@@ -18,15 +18,15 @@ enum-told-3 c = search needs
 
 returns : tie.Need-returns
 unfolding readOf
-returns c = cc
+returns c = simp (c .before .enum-told .given .1) (c .status .ensures)
 
 returns-2 : tie.Need-returns-2
 unfolding readOf
-returns-2 c = cc
+returns-2 c = simp (c .enum-told2 .given .1)
 
 returns-3 : tie.Need-returns-3
 unfolding readOf
-returns-3 c = cc
+returns-3 c = simp (c .before .enum-told3 .given .1)
 
 pub read-spec : {M : Type 1} → statement M
 read-spec =

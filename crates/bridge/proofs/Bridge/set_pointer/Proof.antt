@@ -10,7 +10,7 @@ moved-requires : tie.Need-moved-requires
 moved-requires c κs = search needs
 
 returns : tie.Need-returns
-returns c = cc
+returns c = simp (c .moved .ensures, c .before .pointed .ensures)
 
 pub set-pointer-spec : {M : Type 1} → statement M
 set-pointer-spec = tie.close (tie.spec pointed-requires moved-requires returns)

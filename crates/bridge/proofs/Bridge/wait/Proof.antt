@@ -39,7 +39,7 @@ finished-triplet-requires c κs = search needs
 
 returns : tie.Need-returns
 unfolding afterTime finishedOf
-returns c = cc
+returns c = simp (c .enum-told .given .1)
 
 returns-2 : tie.Need-returns-2
 unfolding afterTime finishedOf
