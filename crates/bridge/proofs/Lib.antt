@@ -2,5 +2,4 @@ pub mod Writes
 pub mod Slots
 pub mod Effects
 pub mod Reach
-pub mod Cases
 pub mod Unique

@@ -10,7 +10,7 @@ use Rattle.packet.specs.declared.Reading.the-variants.{Refused}
 use Rattle.packet.specs.Request.{read, bodyOf, invertedOf, sealOf, packetOf}
 use Rattle.packet.specs.Reading.{readForm, formOf, isSealed, checked, readingOf}
 use Rattle.bridge.specs.Bridge.{powerOn, busy}
-use Rattle.bridge.proofs.Cases.{p9-refused, p9-accepted, p9-read, p10, p11}
+use Rattle.paper.proofs.Wire.{p9-refused, p9-accepted, p9-read, p10, p11}
 use Rattle.paper.specs.Paper.{Paper, a, b, c}
 
 p1 : crc8Of (0x02 ∷ 0x1C ∷ 0xB8 ∷ 0x01 ∷ 0 ∷ 0 ∷ 0 ∷ []) ≡ 0xA2

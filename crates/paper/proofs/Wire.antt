@@ -1,6 +1,4 @@
--- The cases P9, P10 and P11 of document 01, "Tried on paper", of the definitions.
---   withOne x      the bridge at power-on with the one probe of the ID x
---   ready x        it, after D2h F0h, a 1-Wire reset and its time
+-- The cases P9, P10 and P11 of the table. P9 holds of any bridge that is not busy.
 use mathlib.Core.Path.{_≡_, refl, sym, ap, _∙_}
 use mathlib.Core.Bool.{false}
 use mathlib.Core.List.{List, [], _∷_}
@@ -11,9 +9,10 @@ use Rattle.probe.specs.Probe.{sends, sendsIn, took, tookIn, tookCode}
 use Rattle.line.specs.declared.Line.{Line}
 use Rattle.line.specs.Line.{bare, fitted, idsOf, isFitted, any, all, level, slot, onFitted, resetAll, present, placeNumber, withProbe, afterFit}
 use Rattle.line.proofs.Places.{fitNumber-free, afterFit-done}
 use Rattle.bridge.specs.declared.Bridge.{Bridge}
 use Rattle.bridge.specs.Bridge.{powerOn, statusOf, readOf, busy, bytesOf, takenWhileBusy, goodParameter, writeNumber, afterWrite, obeyed, onLine}
 use Rattle.bridge.specs.Bridge.{finishedReset, finishedTriplet, finishedOf, afterTime, afterFitting, command}
+use Rattle.paper.specs.Paper.{ready}
 
 -- ---- P9: D2h D2h is refused with 8, D2h E1h accepted and read back as 01h
 
@@ -32,24 +31,18 @@ module _ (b : Bridge) (free : busy b ≡ false) where
 
 -- ---- P10: from power-on with one probe, D2h F0h, then a 1-Wire reset, time passes: status 0Ah
 
-unfoldable pub withOne : List ℕ → Bridge
-withOne x = afterFitting x powerOn
-
-unfoldable pub ready : List ℕ → Bridge
-ready x = command (0xB4 ∷ []) (afterWrite (0xD2 ∷ 0xF0 ∷ []) (withOne x))
-
 -- an accepted ID on the bare line
 one-fitted : (x : List ℕ) → refusalOf x ≡ 0 → afterFit x bare ≡ withProbe (numberOf x) bare
 unfolding placeNumber isFitted idsOf fitted any bare
 one-fitted x e = sym (afterFit-done x bare (fitNumber-free x bare e refl (lit< tt)))
 
 pub p10 : (x : List ℕ) → refusalOf x ≡ 0 → readOf (ready x) ≡ 0x0A
-unfolding ready withOne afterFitting powerOn bare withProbe command afterTime finishedOf afterWrite writeNumber bytesOf goodParameter obeyed finishedReset present resetAll onFitted fitted readOf statusOf
+unfolding afterFitting powerOn bare withProbe command afterTime finishedOf afterWrite writeNumber bytesOf goodParameter obeyed finishedReset present resetAll onFitted fitted readOf statusOf
 p10 x e = ap (λ (l : Line). readOf (command (0xB4 ∷ []) (afterWrite (0xD2 ∷ 0xF0 ∷ []) (onLine l powerOn)))) (one-fitted x e)
 
 -- ---- P11: then a triplet with any parameter, time passes: EAh. The probe takes the slots as command bits and sends nothing.
 
 pub p11 : (x : List ℕ) → refusalOf x ≡ 0 → (d : ℕ) → readOf (command (0x78 ∷ d ∷ []) (ready x)) ≡ 0xEA
-unfolding ready withOne afterFitting powerOn bare withProbe command afterTime finishedOf afterWrite writeNumber bytesOf goodParameter obeyed finishedReset finishedTriplet present resetAll level slot onFitted all sends sendsIn took tookIn tookCode fitted readOf statusOf
+unfolding afterFitting powerOn bare withProbe command afterTime finishedOf afterWrite writeNumber bytesOf goodParameter obeyed finishedReset finishedTriplet present resetAll level slot onFitted all sends sendsIn took tookIn tookCode fitted readOf statusOf
 p11 x e d =
     ap (λ (l : Line). readOf (command (0x78 ∷ d ∷ []) (command (0xB4 ∷ []) (afterWrite (0xD2 ∷ 0xF0 ∷ []) (onLine l powerOn))))) (one-fitted x e)
