@@ -5,7 +5,7 @@
 --   entered-table    the register after a byte, by the register that the table has
 --   crcFrom-next     one byte more of a slice; crcFrom-done, none left
 --   entered-lt, crcFrom-lt, crc16Of-lt    a register of w bits stays one
-use mathlib.Core.Path.{_≡_, refl, sym, ap, ap₂, subst, _∙_}
+use mathlib.Core.Path.{_≡_, refl, sym, ap, ap₂, _∙_}
 use mathlib.Core.Bool.{Bool, true, false, cond}
 use Prim.Native.Nat.{ℕ, zero, suc, _+_, _*_, _/_, _%_, _^_, _<_, _≤_}
 use native.Mathlib.Nat.{mul-one, pow-suc, mod-lt}
@@ -20,7 +20,7 @@ use lib.Bits.{bitXor, xor-lt, xor-zero-r, xor-self, xor-comm, xor-shifted, xor-s
 use lib.Dec.{eqb, lit<}
 use lib.Pow.{pow-pos, split}
 use Rattle.checksum.specs.Register.{shifted, shifts, entered, crcFrom, crc16Of, taps, taps16}
-use Rattle.checksum.proofs.Xor.{xor-half, xor-parity, xor-assoc, xor-swap}
+use Rattle.checksum.proofs.Xor.{xor-half, xor-assoc, xor-swap}
 
 -- what the taps add to a register whose low bit and the bit that goes in sum to f
 abbrev gate : ℕ → ℕ → ℕ

@@ -1,6 +1,6 @@
 -- A table's rule, carried to each entry. That a constant array is the whole table is one equation, which antt computes.
 --   entry    the entry at k is the register after the byte k
-use mathlib.Core.Path.{_≡_, refl, sym, ap, _∙_}
+use mathlib.Core.Path.{_≡_, sym, ap, _∙_}
 use mathlib.Core.List.{List}
 use Prim.Native.Nat.{ℕ, zero, suc, _+_, _<_}
 use native.Mathlib.Nat.{zero-add, add-zero, add-suc, suc-add}

@@ -1,18 +1,15 @@
 -- XOR of numbers: what `lib.Bits` does not say of it.
---   xor-half, xor-parity    the half of an XOR, and whether it is odd
+--   xor-half                the half of an XOR
 --   xor-assoc               the XOR of three, either way
 --   xor-swap                the last two of three change places
-use mathlib.Core.Path.{_≡_, refl, sym, ap, ap₂, _∙_}
-use Prim.Native.Nat.{ℕ, _+_, _*_, _/_, _%_}
+use mathlib.Core.Path.{_≡_, refl, sym, ap, _∙_}
+use Prim.Native.Nat.{ℕ, _/_, _%_}
 use native.Mathlib.Omega.{arith}
 use lib.Arith.{bin-ind}
 use lib.Bits.{bitXor, xor-add-and, xor-shr, xor-comm}
 
 pub xor-half : (a b : ℕ) → bitXor a b / 2 ≡ bitXor (a / 2) (b / 2)
 xor-half a b = xor-shr a b 1
-
-pub xor-parity : (a b : ℕ) → bitXor a b % 2 ≡ (a + b) % 2
-xor-parity a b = omega (arith, xor-add-and a b)
 
 -- a number is its half and its low bit
 by-halves : (m n : ℕ) → m / 2 ≡ n / 2 → m % 2 ≡ n % 2 → m ≡ n

@@ -1,5 +1,5 @@
 -- Each contract leaves one answer for each argument.
-use mathlib.Core.Path.{_≡_, sym, _∙_}
+use mathlib.Core.Path.{sym, _∙_}
 use Rattle.checksum.proofs.Unique.{OneAnswer}
 use Rattle.identity.proofs.number.Reads as number
 use Rattle.identity.proofs.bit.Reads as bit

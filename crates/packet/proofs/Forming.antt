@@ -5,13 +5,12 @@
 --   sealed              the checksum completes the packet
 --   write-laid, read-laid, writeRead-laid    the steps of each form
 --   write-within, read-within, writeRead-within    the limits of an accepted request, and room for its packet
-use mathlib.Core.Path.{_≡_, refl, sym, ap, ap₂, subst, _∙_}
+use mathlib.Core.Path.{_≡_, refl, sym, ap, subst, _∙_}
 use mathlib.Core.Bool.{Bool, cond, _&&_}
 use mathlib.Core.List.{List, [], _∷_, _++_}
-use Prim.Native.Nat.{ℕ, suc, _+_, _*_, _<_, _≤_}
+use Prim.Native.Nat.{ℕ, _+_, _*_, _≤_}
 use native.Mathlib.Omega.{arith}
 use borrow.Author.Tests.{eq-eqb, ne-eqb}
-use lib.Dec.{eqb}
 use lib.ListN.{length, take, set, length-append}
 use Rattle.packet.specs.Buffer.{over, placed}
 use Rattle.packet.specs.Request.{Request, write, read, writeRead, bodyOf, sealOf, packetOf, goodAddress, goodCount, inLimits, numberFor, formNumber, formed}

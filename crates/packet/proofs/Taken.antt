@@ -2,7 +2,7 @@
 --   read-refused, read-parts, read-wrong    the reader's answer from the form and the checksum
 --   Within r p        the data that the answer r tells of lies within p
 --   reading-within    so it is for every packet
-use mathlib.Core.Path.{_≡_, refl, sym, ap, ap₂, subst, _∙_}
+use mathlib.Core.Path.{_≡_, refl, sym, ap, ap₂, _∙_}
 use mathlib.Core.Bool.{Bool, true, false, cond, _&&_}
 use mathlib.Core.List.{List}
 use Prim.Native.Nat.{ℕ, _+_, _%_, _/_, _≤_}

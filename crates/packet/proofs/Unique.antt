@@ -1,5 +1,5 @@
 -- Each contract leaves one answer, and one content of the lent buffer, for each argument.
-use mathlib.Core.Path.{_≡_, sym, _∙_}
+use mathlib.Core.Path.{sym, _∙_}
 use denote.Ref.{now}
 use Rattle.checksum.proofs.Unique.{OneAnswer, OneSeen, OneAnswerAnd}
 use Rattle.packet.proofs.form_write.Reads as form-write

@@ -1,5 +1,5 @@
 -- The cases P9, P10 and P11 of the table. P9 holds of any bridge that is not busy.
-use mathlib.Core.Path.{_≡_, refl, sym, ap, _∙_}
+use mathlib.Core.Path.{_≡_, refl, sym, ap}
 use mathlib.Core.Bool.{false}
 use mathlib.Core.List.{List, [], _∷_}
 use Prim.Native.Nat.{ℕ}
@@ -10,7 +10,7 @@ use Rattle.line.specs.declared.Line.{Line}
 use Rattle.line.specs.Line.{bare, fitted, idsOf, isFitted, any, all, level, slot, onFitted, resetAll, present, placeNumber, withProbe, afterFit}
 use Rattle.line.proofs.Places.{fitNumber-free, afterFit-done}
 use Rattle.bridge.specs.declared.Bridge.{Bridge}
-use Rattle.bridge.specs.Bridge.{powerOn, statusOf, readOf, busy, bytesOf, takenWhileBusy, goodParameter, writeNumber, afterWrite, obeyed, onLine}
+use Rattle.bridge.specs.Bridge.{powerOn, statusOf, readOf, busy, bytesOf, goodParameter, writeNumber, afterWrite, obeyed, onLine}
 use Rattle.bridge.specs.Bridge.{finishedReset, finishedTriplet, finishedOf, afterTime, afterFitting, command}
 use Rattle.paper.specs.Paper.{ready}
 

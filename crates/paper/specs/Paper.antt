@@ -3,7 +3,7 @@
 --   withOne x          power-on with the one probe of the ID x
 --   ready x            it, after D2h F0h, a 1-Wire reset and its time
 --   Paper              the table
-use Prim.Native.Nat.{ℕ, _<_}
+use Prim.Native.Nat.{ℕ}
 use mathlib.Core.List.{List, [], _∷_}
 use mathlib.Core.Path.{_≡_}
 use lib.ListN.{take}

@@ -4,25 +4,23 @@
 --   back-formed     the same of what forming leaves at the front of a buffer
 --   back-refused    a request that is refused
 --   fits-formed     the packet fits the buffer that it was formed in
-use mathlib.Core.Path.{_≡_, refl, sym, ap, ap₂, subst, _∙_}
-use mathlib.Core.Bool.{Bool, true, false, cond, _&&_}
+use mathlib.Core.Path.{_≡_, refl, sym, ap, ap₂, _∙_}
+use mathlib.Core.Bool.{Bool, true, cond, _&&_}
 use mathlib.Core.List.{List, [], _∷_, _++_, append-assoc}
-use Prim.Native.Nat.{ℕ, suc, _+_, _-_, _*_, _/_, _%_, _≤_}
-use native.Mathlib.Nat.{add-zero}
+use Prim.Native.Nat.{ℕ, _+_, _-_, _*_, _/_, _%_, _≤_}
 use native.Mathlib.Omega.{arith}
 use borrow.Author.Tests.{eq-eqb, ne-eqb, le-leb}
-use lib.Dec.{eqb, leb}
-use lib.ListN.{length, getD, take, drop, length-append}
-use lib.Seq.{take-append-seam, getD-append-seam, getD-append-add, take-append-le}
-use Rattle.packet.specs.declared.Reading.{Reading}
-use Rattle.packet.specs.declared.Reading.the-variants.{Parts, Refused}
+use lib.Dec.{eqb}
+use lib.ListN.{length, getD, take, length-append}
+use lib.Seq.{take-append-seam, getD-append-seam, getD-append-add}
+use Rattle.packet.specs.declared.Reading.the-variants.{Refused}
 use Rattle.packet.specs.Request.{Request, write, read, writeRead, bodyOf, invertedOf, sealOf, packetOf, goodAddress, goodCount, inLimits, formNumber, formed}
-use Rattle.packet.specs.Reading.{noForm, writeForm, readForm, writeReadForm, formOf, isSealed, checked, readingOf, partsOf}
+use Rattle.packet.specs.Reading.{writeForm, readForm, writeReadForm, formOf, isSealed, checked, readingOf, partsOf}
 use Rattle.packet.specs.Buffer.{over}
 use Rattle.packet.proofs.Limits.{left-true, right-true, count-of, good-of, room-of}
 use Rattle.packet.proofs.Buffer.{take-over}
 use Rattle.roundtrip.specs.RoundTrip.{readBack}
-use Rattle.packet.proofs.Forming.{length-write, length-read, length-writeRead}
+use Rattle.packet.proofs.Forming.{length-write, length-writeRead}
 
 -- ---- the checksum
 

@@ -1,5 +1,5 @@
 -- The contract leaves one answer and one content of the lent parts for each argument.
-use mathlib.Core.Path.{_≡_, sym, _∙_}
+use mathlib.Core.Path.{sym, _∙_}
 use denote.Ref.{now}
 use Rattle.checksum.proofs.Unique.{OneAnswerAnd}
 use Rattle.trial.proofs.trial_read.Reads as trial-read

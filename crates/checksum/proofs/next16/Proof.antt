@@ -1,11 +1,11 @@
 -- `checksum::next16` meets its contract: the entry is the table's rule at the sum of the register's low byte and the byte, and the high byte
 -- comes down.
-use mathlib.Core.Path.{_≡_, sym, ap, _∙_}
+use mathlib.Core.Path.{sym, ap, _∙_}
 use Prim.Native.Nat.{ℕ, _%_, _/_, _<_}
 use native.Mathlib.Omega.{arith}
 use lib.Dec.{lit<}
 use lib.Bits.{bitXor, xor-lt}
-use Rattle.checksum.specs.Register.{entered, taps, taps16}
+use Rattle.checksum.specs.Register.{taps, taps16}
 use Rattle.checksum.proofs.Table.{entry}
 use Rattle.checksum.proofs.Shift.{entered-table, entered-lt}
 use Rattle.checksum.proofs.next16.Statement.{statement}

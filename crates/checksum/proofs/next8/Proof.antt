@@ -1,5 +1,5 @@
 -- `checksum::next8` meets its contract: the entry is the table's rule at the sum of register and byte, and nothing stands above a byte.
-use mathlib.Core.Path.{_≡_, sym, ap, ap₂, _∙_}
+use mathlib.Core.Path.{_≡_, sym, _∙_}
 use Prim.Native.Nat.{ℕ, _%_, _/_, _<_}
 use native.Mathlib.Omega.{arith}
 use lib.Bits.{bitXor, xor-lt, xor-zero-r}

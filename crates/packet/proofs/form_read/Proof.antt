@@ -1,7 +1,6 @@
 -- `packet::form_read` meets its contract: the number is worked out first, and only where it is 0 is the packet laid.
 use mathlib.Core.Path.{_≡_, sym, ap, _∙_}
 use mathlib.Core.Bool.{Bool}
-use Prim.Native.Nat.{ℕ, _+_}
 use lib.ListN.{length}
 use Rattle.packet.specs.Request.{read, numberFor, formNumber}
 use Rattle.packet.proofs.Forming.{number-read, read-within, kept, laid}

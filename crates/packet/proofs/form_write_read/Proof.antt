@@ -1,7 +1,7 @@
 -- `packet::form_write_read` meets its contract: the number is worked out first, and only where it is 0 is the packet laid.
 use mathlib.Core.Path.{_≡_, sym, ap, _∙_}
 use mathlib.Core.Bool.{Bool}
-use Prim.Native.Nat.{ℕ, _+_}
+use Prim.Native.Nat.{_+_}
 use lib.ListN.{length}
 use Rattle.packet.specs.Request.{writeRead, numberFor, formNumber}
 use Rattle.packet.proofs.Forming.{number-writeRead, writeRead-within, kept, laid}

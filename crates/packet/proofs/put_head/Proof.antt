@@ -1,5 +1,4 @@
 -- `packet::put_head` meets its contract: three stores, one after the other, are the three bytes at the front.
-use borrow.Author.Needs.{needs}
 use native.Mathlib.Omega.{arith}
 use lib.ListN.{length-set}
 use mathlib.Core.List.{[], _∷_}

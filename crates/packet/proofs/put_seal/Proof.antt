@@ -2,12 +2,11 @@
 use borrow.Author.Needs.{needs}
 use native.Mathlib.Omega.{arith}
 use native.Mathlib.Numerals.{add-one}
-use mathlib.Core.Path.{_≡_, sym, ap, ap₂, _∙_}
+use mathlib.Core.Path.{_≡_, sym, ap, _∙_}
 use mathlib.Core.List.{List, [], _∷_}
-use Prim.Native.Nat.{ℕ, suc, _+_, _-_, _/_, _%_, _≤_}
-use lib.ListN.{length, take, set, length-set}
+use Prim.Native.Nat.{ℕ, _+_, _-_, _/_, _%_, _≤_}
+use lib.ListN.{length, set, length-set}
 use lib.Seq.{length-take-le, sets-eq}
-use Rattle.checksum.specs.Register.{crc16Of}
 use Rattle.packet.specs.Buffer.{placed}
 use Rattle.packet.specs.Request.{sealOf, invertedOf}
 use Rattle.packet.proofs.put_seal.Statement.{statement}

@@ -1,7 +1,7 @@
 -- `roundtrip::read_back_read` meets its contract: what forming leaves at the front of the buffer is the packet, and reading that gives the request.
 use mathlib.Core.Path.{_≡_, sym, ap, _∙_}
 use mathlib.Core.List.{List}
-use Prim.Native.Nat.{ℕ, _+_, _≤_}
+use Prim.Native.Nat.{ℕ, _≤_}
 use native.Mathlib.Omega.{arith}
 use lib.ListN.{length, take}
 use lib.Seq.{length-take-le}
