@@ -1,4 +1,5 @@
 -- `Bridge::finished_bit` meets its contract, by those of the line and of `finished`.
+use mathlib.Core.Path.{refl}
 use Rattle.bridge.specs.Bridge.{finishedBit}
 use borrow.Author.Needs.{needs}
 use Rattle.bridge.proofs.Bridge.finished_bit.Statement.{statement}
@@ -13,7 +14,7 @@ finished-requires c κs = search needs
 returns : tie.Need-returns
 unfolding finishedBit
 returns c =
-    let s = c .before .before .slot .ensures in simp (c .finished .ensures, s .0, s .1)
+    let s = c .before .before .slot .ensures in simp (c .finished .ensures, s .0, s .1) refl
 
 pub finished-bit-spec : {M : Type 1} → statement M
 finished-bit-spec = tie.close (tie.spec slot-requires finished-requires returns)

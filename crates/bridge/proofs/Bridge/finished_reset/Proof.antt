@@ -1,4 +1,5 @@
 -- `Bridge::finished_reset` meets its contract, by those of the line and of `finished`.
+use mathlib.Core.Path.{refl}
 use Rattle.bridge.specs.Bridge.{finishedReset}
 use borrow.Author.Needs.{needs}
 use Rattle.bridge.proofs.Bridge.finished_reset.Statement.{statement}
@@ -15,7 +16,7 @@ finished-requires c κs = search needs
 
 returns : tie.Need-returns
 unfolding finishedReset
-returns c = simp (c .finished .ensures, c .before .reset .ensures, c .before .before .present .ensures)
+returns c = simp (c .finished .ensures, c .before .reset .ensures, c .before .before .present .ensures) refl
 
 pub finished-reset-spec : {M : Type 1} → statement M
 finished-reset-spec =

@@ -1,5 +1,7 @@
 -- `Bridge::fit` meets its contract, by that of the line.
-use Rattle.bridge.specs.Bridge.{afterFitting}
+use mathlib.Core.Path.{ap}
+use Rattle.line.specs.declared.Line.{Line}
+use Rattle.bridge.specs.Bridge.{afterFitting, onLine}
 use borrow.Author.Needs.{needs}
 use Rattle.bridge.proofs.Bridge.fit.Statement.{statement}
 use Rattle.bridge.proofs.Bridge.fit.Tie as tie
@@ -9,7 +11,7 @@ fit-requires c κs = search needs
 
 returns : tie.Need-returns
 unfolding afterFitting
-returns c = (simp (c .before .fit .ensures .0), simp (c .before .fit .ensures .1))
+returns c = (c .before .fit .ensures .0, ap (λ (l : Line). onLine l (c .before .before .before .args .self)) (c .before .fit .ensures .1))
 
 pub fit-spec : {M : Type 1} → statement M
 fit-spec = tie.close (tie.spec fit-requires returns)

@@ -1,4 +1,5 @@
 -- `Bridge::read` meets its contract, register by register.
+use mathlib.Core.Path.{refl}
 use Rattle.bridge.specs.Bridge.{readOf}
 use borrow.Author.Needs.{needs}
 use Rattle.bridge.proofs.Bridge.read.Statement.{statement}
@@ -22,11 +23,11 @@ returns c = simp (c .before .enum-told .given .1) (c .status .ensures)
 
 returns-2 : tie.Need-returns-2
 unfolding readOf
-returns-2 c = simp (c .enum-told2 .given .1)
+returns-2 c = simp (c .enum-told2 .given .1) refl
 
 returns-3 : tie.Need-returns-3
 unfolding readOf
-returns-3 c = simp (c .before .enum-told3 .given .1)
+returns-3 c = simp (c .before .enum-told3 .given .1) refl
 
 pub read-spec : {M : Type 1} → statement M
 read-spec =
