@@ -1,5 +1,6 @@
 -- The slots of a byte, one by one.
---   written-next, slotsOfOne-next    one slot more
+--   written-slots       the slots of Write Byte are those of the line
+--   slotsOfOne-next     one slot more
 --   gathered n x l      the byte x once the levels of n write-one slots have gone in at its top
 --   gathered-next       one level more
 --   gathered-levels     eight levels that go into 0 are the levels, low bit first
@@ -12,17 +13,17 @@ use lib.Dec.{eqb}
 use lib.Pow.{pow-pos}
 use Rattle.probe.specs.Probe.{digit}
 use Rattle.line.specs.declared.Line.{Line}
-use Rattle.line.specs.Line.{level, slot}
+use Rattle.line.specs.Line.{level, slot, slots}
 use Rattle.bridge.specs.Bridge.{written, slotsOfOne, levels}
 
 -- what comes after one turn of a loop that counts down
 step : {A : Type 0} (f : ℕ → A) (n : ℕ) → f (suc n - 1) ≡ f n
 step f n = ap f (omega arith)
 
-pub written-next : (n x : ℕ) (l : Line) → 0 < n → written (n - 1) (x / 2) (slot (eqb (x % 2) 1) l) ≡ written n x l
-unfolding written
-written-next zero x l h = absurd (omega arith)
-written-next (suc n) x l h = step (λ (k : ℕ). written k (x / 2) (slot (eqb (x % 2) 1) l)) n
+pub written-slots : (n x : ℕ) (l : Line) → written n x l ≡ slots n x l
+unfolding written slots
+written-slots zero x l = refl
+written-slots (suc n) x l = written-slots n (x / 2) (slot (eqb (x % 2) 1) l)
 
 pub slotsOfOne-next : (n : ℕ) (l : Line) → 0 < n → slotsOfOne (n - 1) (slot true l) ≡ slotsOfOne n l
 unfolding slotsOfOne

@@ -6,29 +6,13 @@ use line::Line;
 ghost use mathlib.Core.Path.{_≡_};
 ghost use Prim.Native.Nat.{_+_, _*_, _/_};
 ghost use Rattle.probe.specs.Probe.{digit};
-ghost use Rattle.bridge.specs.Bridge.{written as writtenOn, slotsOfOne, levels as levelsOf, chosen as chosenBy, finished as finishedOn};
+ghost use Rattle.bridge.specs.Bridge.{slotsOfOne, levels as levelsOf, chosen as chosenBy, finished as finishedOn};
 ghost use Rattle.bridge.specs.Bridge.{finishedReset, finishedBit, finishedWrite, finishedRead, finishedTriplet};
 
 // What eight write-one slots give: their levels, low bit first, and the line afterwards.
 struct Levels {
     byte: u8,
     line: Line,
-}
-
-// The line after eight slots with the bits of a byte, low bit first. Only the line goes round.
-fn written(start: Line, byte: u8) -> Line
-    ensures { λ r. ⌜ r ≡ writtenOn 8 byte start ⌝ }
-{
-    let mut line = start;
-    let mut rest = byte;
-    let mut left: u8 = 8;
-    while 0 < left {
-        let slotted = line.slot(rest % 2 == 1);
-        line = slotted.line;
-        rest = rest / 2;
-        left -= 1;
-    }
-    line
 }
 
 // A level goes in at the top of a byte and moves the earlier ones down, so that after eight the first is bit 0.
@@ -107,7 +91,7 @@ impl Bridge {
         ensures { λ r. ⌜ r ≡ finishedWrite byte self ⌝ }
     {
         let line = self.line;
-        self.finished(written(line, byte))
+        self.finished(line.slots(byte))
     }
 
     pub(crate) fn finished_read(mut self) -> Bridge

@@ -1,6 +1,7 @@
 -- The first entries of a table, over any type of entry.
 --   stepped f i l      l with f done to each of its first i entries
---   stepped-next       one entry more
+--   stepped-next       one entry more; stepped-kept, one that f leaves as it is
+--   both, first-of, rest-of     two tests in a row
 --   take-beyond, drop-beyond    a count beyond the table's end means the whole table
 --   all-none           no entry fails a test yet; all-next, one more passes it; all-fails, one fails it
 --   any-all            some entry passes a test, unless all fail it
@@ -17,14 +18,14 @@ use Rattle.line.specs.Line.{all, any}
 
 -- ---- two tests in a row
 
-both : (s t : Bool) → s ≡ true → t ≡ true → cond s t false ≡ true
+pub both : (s t : Bool) → s ≡ true → t ≡ true → cond s t false ≡ true
 both s t e f = ap (λ (b : Bool). cond b t false) e ∙ f
 
-first-of : (s t : Bool) → cond s t false ≡ true → s ≡ true
+pub first-of : (s t : Bool) → cond s t false ≡ true → s ≡ true
 first-of true t e = refl
 first-of false t e = e
 
-rest-of : (s t : Bool) → cond s t false ≡ true → t ≡ true
+pub rest-of : (s t : Bool) → cond s t false ≡ true → t ≡ true
 rest-of true t e = e
 rest-of false t e = absurd (false≢true e)
 
@@ -49,6 +50,16 @@ module _ {A : Type 0} where
 
   pub stepped-next : (f : A → A) (l : List A) (i : ℕ) (d : A) → i < length l → set (stepped f i l) i (f (getD (stepped f i l) i d)) ≡ stepped f (i + 1) l
   stepped-next f l i d h = rw add-one (next f l i d h)
+
+  kept : (f : A → A) (l : List A) (i : ℕ) (d : A)
+      → i < length l → f (getD (stepped f i l) i d) ≡ getD (stepped f i l) i d → stepped f i l ≡ stepped f (suc i) l
+  kept f [] i d h e = absurd (omega arith)
+  kept f (x ∷ l) zero d h e = ap (λ (y : A). y ∷ l) (sym e)
+  kept f (x ∷ l) (suc i) d h e = ap (λ (t : List A). f x ∷ t) (kept f l i d (omega arith) e)
+
+  pub stepped-kept : (f : A → A) (l : List A) (i : ℕ) (d : A)
+      → i < length l → f (getD (stepped f i l) i d) ≡ getD (stepped f i l) i d → stepped f i l ≡ stepped f (i + 1) l
+  stepped-kept f l i d h e = rw add-one (kept f l i d h e)
 
   -- ---- a count beyond the end
 

@@ -9,6 +9,7 @@ use Rattle.checksum.proofs.Unique.{OneAnswer}
 use Rattle.line.proofs.Line.bare.Reads as bare
 use Rattle.line.proofs.Line.present.Reads as present
 use Rattle.line.proofs.Line.slot.Reads as slot
+use Rattle.line.proofs.Line.slots.Reads as slots
 use Rattle.line.proofs.Line.reset.Reads as reset
 use Rattle.line.proofs.Line.fit.Reads as fit
 
@@ -17,6 +18,9 @@ one-bare κ a x y s t p q = p ∙ sym q
 
 pub one-present : OneAnswer present.Post
 one-present κ a x y s t p q = p ∙ sym q
+
+pub one-slots : OneAnswer slots.Post
+one-slots κ a x y s t p q = p ∙ sym q
 
 pub one-reset : OneAnswer reset.Post
 one-reset κ a x y s t p q = p ∙ sym q

@@ -5,11 +5,12 @@
 --   onFitted f l       the line with f done to each of them
 --   level w l          what the wire carries in a slot in which the bridge writes w
 --   slot w l           the line after that slot
+--   slots n x l        the line after n slots with the low n bits of x, low bit first
 --   resetAll l         the line after a 1-Wire reset
 --   present l          some probe is fitted
 --   fitNumber x l      the number that fitting the ID of the bytes x gives
 --   afterFit x l       the line after that
-use Prim.Native.Nat.{ℕ, _+_}
+use Prim.Native.Nat.{ℕ, zero, suc, _+_, _/_, _%_}
 use mathlib.Core.Bool.{Bool, true, false, cond}
 use mathlib.Core.List.{List, [], _∷_, _++_, map}
 use lib.Dec.{eqb, leb, ltb}
@@ -52,6 +53,11 @@ level w l = cond w (all sends (fitted l)) false
 -- Every probe takes the level.
 unfoldable pub slot : Bool → Line → Line
 slot w l = onFitted (took (level w l)) l
+
+-- Several slots, in which the bridge writes the low n bits of x, low bit first.
+unfoldable pub slots : ℕ → ℕ → Line → Line
+slots zero x l = l
+slots (suc n) x l = slots n (x / 2) (slot (eqb (x % 2) 1) l)
 
 unfoldable pub resetAll : Line → Line
 resetAll l = onFitted reset l

@@ -4,11 +4,13 @@
 // every probe takes that level.
 //
 // Worked example: two probes that send 1 and 0 leave the line at 0 in a slot in which the bridge writes 1.
+use probe::Condition;
 use probe::Probe;
 ghost use mathlib.Core.Path.{_≡_};
 ghost use Prim.Native.Nat.{_<_, _≤_};
 ghost use lib.ListN.{length, take, drop};
-ghost use Rattle.line.specs.Line.{all, fitted, bare, onFitted, level, slot, resetAll, present, isFitted, fitNumber, withProbe, afterFit};
+ghost use Rattle.line.specs.Line.{all, fitted, bare, onFitted, level, slot, slots, resetAll, present, isFitted, fitNumber, withProbe, afterFit};
+ghost use Rattle.line.specs.Together.{rests, quietFor, tookBits};
 ghost use Rattle.probe.specs.Probe.{sends, took, reset};
 
 // The numbers that fitting returns besides those of the ID itself ("Numbers returned").
@@ -37,6 +39,51 @@ pub struct Slotted {
 pub struct Fitting {
     pub number: u8,
     pub line: Line,
+}
+
+// No slot changes the probe.
+fn rests(p: Probe) -> bool
+    ensures { λ r. ⌜ r ≡ rests p ⌝ }
+{
+    let condition = p.condition;
+    match condition {
+        Condition::Deaf => true,
+        Condition::Taking { count: _, code: _ } => false,
+        Condition::Sending { bit: _ } => false,
+        Condition::Matching { bit: _ } => false,
+        Condition::Searching { bit: _, slot: _ } => false,
+        Condition::Selected => true,
+    }
+}
+
+// The probe sends nothing in the next eight slots, whatever their levels.
+fn quiet(p: Probe) -> bool
+    ensures { λ r. ⌜ r ≡ quietFor 8 p ⌝ }
+{
+    let condition = p.condition;
+    match condition {
+        Condition::Deaf => true,
+        Condition::Taking { count, code: _ } => count == 0,
+        Condition::Sending { bit: _ } => false,
+        Condition::Matching { bit: _ } => true,
+        Condition::Searching { bit: _, slot: _ } => false,
+        Condition::Selected => true,
+    }
+}
+
+// The probe after eight slots whose levels are the bits of a byte.
+fn took_byte(before: Probe, byte: u8) -> Probe
+    ensures { λ r. ⌜ r ≡ tookBits 8 byte before ⌝ }
+{
+    let mut p = before;
+    let mut rest = byte;
+    let mut left: u8 = 8;
+    while 0 < left {
+        p = p.took(rest % 2 == 1);
+        rest = rest / 2;
+        left -= 1;
+    }
+    p
 }
 
 impl Line {
@@ -89,16 +136,19 @@ impl Line {
         if write { self.all_send() } else { false }
     }
 
-    // Every probe takes the level.
+    // Every probe takes the level. One that no slot changes is left alone.
     fn taken(mut self, level: bool) -> Line
         ensures { λ r. ⌜ r ≡ onFitted (took level) self ⌝ }
     {
         let n = self.entries();
         let mut i = 0;
         while i < n {
-            let p = self.probes[i];
-            self.probes[i] = p.took(level);
+            let at = i;
+            let p = self.probes[at];
             i += 1;
+            if !rests(p) {
+                self.probes[at] = p.took(level);
+            }
         }
         self
     }
@@ -111,6 +161,71 @@ impl Line {
         Slotted {
             level,
             line: self.taken(level),
+        }
+    }
+
+    // No probe sends anything in the next eight slots.
+    fn silent(self) -> bool
+        ensures { λ r. ⌜ r ≡ all (quietFor 8) (fitted self) ⌝ }
+    {
+        let n = self.entries();
+        let mut i = 0;
+        while i < n {
+            let p = self.probes[i];
+            if !quiet(p) {
+                return false;
+            }
+            i += 1;
+        }
+        true
+    }
+
+    // Every probe takes eight levels, the bits of a byte.
+    fn taken_byte(mut self, byte: u8) -> Line
+        ensures { λ r. ⌜ r ≡ onFitted (tookBits 8 byte) self ⌝ }
+    {
+        let n = self.entries();
+        let mut i = 0;
+        while i < n {
+            let at = i;
+            let p = self.probes[at];
+            i += 1;
+            if !rests(p) {
+                self.probes[at] = took_byte(p, byte);
+            }
+        }
+        self
+    }
+
+    fn after_slot(self, write: bool) -> Line
+        ensures { λ r. ⌜ r ≡ slot write self ⌝ }
+    {
+        let level = self.level(write);
+        self.taken(level)
+    }
+
+    fn slot_by_slot(self, byte: u8) -> Line
+        ensures { λ r. ⌜ r ≡ slots 8 byte self ⌝ }
+    {
+        let mut line = self;
+        let mut rest = byte;
+        let mut left: u8 = 8;
+        while 0 < left {
+            line = line.after_slot(rest % 2 == 1);
+            rest = rest / 2;
+            left -= 1;
+        }
+        line
+    }
+
+    // Eight slots with the bits of a byte, low bit first. On a silent line the levels are those bits, and each probe takes them in one go.
+    pub fn slots(self, byte: u8) -> Line
+        ensures { λ r. ⌜ r ≡ slots 8 byte self ⌝ }
+    {
+        if self.silent() {
+            self.taken_byte(byte)
+        } else {
+            self.slot_by_slot(byte)
         }
     }
 

@@ -1,10 +1,12 @@
--- `line::Line::taken` meets its contract: the entries gone through have taken the level.
-use mathlib.Core.Path.{_≡_, refl, _∙_, ap}
+-- `line::Line::taken` meets its contract: the entries gone through have taken the level, those that rest too, whom it does not change.
+use mathlib.Core.Path.{_≡_, refl, sym, _∙_, ap}
 use Prim.Native.Nat.{ℕ, _≤_, _-_}
 use native.Mathlib.Omega.{arith}
 use borrow.Author.Needs.{needs}
+use borrow.Author.Tests.{not-false}
 use Rattle.probe.specs.Probe.{took}
-use Rattle.line.proofs.Steps.{after, after-next, after-all}
+use Rattle.line.proofs.Steps.{after, after-next, after-kept, after-all}
+use Rattle.line.proofs.Together.{took-rests}
 use Rattle.line.proofs.Line.taken.Statement.{statement}
 use Rattle.line.proofs.Line.taken.Tie as tie
 
@@ -26,27 +28,42 @@ mul-p c = omega arith
 element-copy-out-p : tie.Need-element-copy-out-p Inv-loop μ-loop
 element-copy-out-p c = omega arith
 
+add-i : tie.Need-add-i Inv-loop μ-loop
+add-i c = omega arith
+
+rests-requires : tie.Need-rests-requires Inv-loop μ-loop
+rests-requires c κs = search needs
+
 took-requires : tie.Need-took-requires Inv-loop μ-loop
 took-requires c κs = search needs
 
-mul-t9 : tie.Need-mul-t9 Inv-loop μ-loop
-mul-t9 c = omega arith
+mul-t16 : tie.Need-mul-t16 Inv-loop μ-loop
+mul-t16 c = omega arith
 
 element-set-from-self : tie.Need-element-set-from-self Inv-loop μ-loop
 element-set-from-self c = omega arith
-
-add-i : tie.Need-add-i Inv-loop μ-loop
-add-i c = omega arith
 
 loop-less : tie.Need-loop-less Inv-loop μ-loop
 loop-less c = omega arith
 
 loop-again : tie.Need-loop-again Inv-loop μ-loop
 loop-again c =
-    let l = c .before .before .before .loop in
-    let a = c .before .before .before .before .before .args in (
+    let l = c .before .before .before .before .before .loop in
+    let a = c .before .before .before .before .before .before .before .args in (
       omega arith,
       after-next (took (a .level)) (a .t1) (l .self) (l .i) _ (c .took .result) (omega arith) (l .inv .1) (c .took .ensures),
+    )
+
+loop-less-2 : tie.Need-loop-less-2 Inv-loop μ-loop
+loop-less-2 c = omega arith
+
+loop-again-2 : tie.Need-loop-again-2 Inv-loop μ-loop
+loop-again-2 c =
+    let l = c .before .before .before .before .loop in
+    let a = c .before .before .before .before .before .before .args in
+    let resting = sym (c .before .rests .ensures) ∙ not-false _ (c .if1 .left) in (
+      omega arith,
+      after-kept (took (a .level)) (a .t1) (l .self) (l .i) _ (omega arith) (l .inv .1) (took-rests (a .level) _ resting),
     )
 
 returns : tie.Need-returns Inv-loop μ-loop
@@ -68,10 +85,13 @@ taken-spec =
     loop-holds
     mul-p
     element-copy-out-p
-    took-requires
-    mul-t9
-    element-set-from-self
     add-i
+    rests-requires
+    took-requires
+    mul-t16
+    element-set-from-self
     loop-less
     loop-again
+    loop-less-2
+    loop-again-2
     returns)
