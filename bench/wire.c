@@ -83,7 +83,8 @@ static void take(struct probe *p, int level)
     }
 }
 
-static int slot(int write)
+/* One copy of the loops, so that the compiler takes the probe's functions into them. */
+__attribute__((noinline)) static int slot(int write)
 {
     int level = write;
     for (unsigned i = 0; level && i < fitted; i++)
@@ -97,6 +98,24 @@ static void write_byte(unsigned byte)
 {
     for (int i = 0; i < 8; i++)
         slot((int)(byte >> i & 1));
+}
+
+static unsigned read_byte(void)
+{
+    unsigned byte = 0;
+    for (int i = 0; i < 8; i++)
+        byte |= (unsigned)slot(1) << i;
+    return byte;
+}
+
+/* DIR, TSB and SBR as they stand in the status. */
+static unsigned triplet(int direction)
+{
+    int first = slot(1);
+    int second = slot(1);
+    int bit = first ? 1 : second ? 0 : direction;
+    slot(bit);
+    return (unsigned)(bit << 7 | second << 6 | first << 5);
 }
 
 static void reset(void)
@@ -127,19 +146,33 @@ static void fit(unsigned serial)
     fitted++;
 }
 
+static unsigned status = 0x18, readout;
+
+static void work(int kind)
+{
+    reset();
+    status |= 0x02;
+    write_byte(kind == 'r' ? 0x33 : 0xF0);
+    if (kind == 'w')
+        for (unsigned k = 0; k < 8; k++)
+            write_byte(k);
+    if (kind == 'r')
+        for (int k = 0; k < 8; k++)
+            readout = read_byte();
+    if (kind == 's')
+        for (int k = 0; k < 64; k++)
+            status = triplet(0) | (status & 0x1F);
+}
+
+/* For each letter of the input, w, r or s, 2,000 rounds of that work; then the status and the read-data byte. */
 int main(void)
 {
     for (unsigned i = 1; i <= 64; i++)
         fit(i);
-    for (int i = 0; i < 2000; i++) {
-        reset();
-        write_byte(0xF0);
-        for (unsigned k = 0; k < 8; k++)
-            write_byte(k);
+    for (int kind = getchar(); kind != EOF; kind = getchar()) {
+        for (int i = 0; i < 2000; i++)
+            work(kind);
+        printf("%02x %02x\n", status, readout);
     }
-    unsigned searching = 0;
-    for (unsigned i = 0; i < fitted; i++)
-        searching += probes[i].condition == SEARCHING;
-    printf("1a\n");
-    return searching > 64;
+    return 0;
 }

@@ -1,5 +1,8 @@
-// Work for the benchmark (bench/wire): 64 probes, then 2,000 times a 1-Wire Reset, Search ROM and eight more bytes written, each given its
-// time. It prints the status at the end.
+// Work for the benchmark (bench/wire): 64 probes, and for each letter of the input 2,000 rounds of that work, each command given its time.
+//   w   1-Wire Reset, Search ROM and eight more bytes written
+//   r   1-Wire Reset, Read ROM and eight bytes read: every probe sends in every slot
+//   s   1-Wire Reset, Search ROM and 64 triplets: a whole pass of a search
+// After each work it prints the status and the read-data byte.
 use bridge::Bridge;
 
 // The ID of family 19h with this serial number.
@@ -41,17 +44,63 @@ fn bytes_after(bridge: Bridge) -> Bridge {
     b
 }
 
-fn round(bridge: Bridge) -> Bridge {
-    bytes_after(command(command(bridge, &[0xB4]), &[0xA5, 0xF0]))
+fn reads_after(bridge: Bridge) -> Bridge {
+    let mut b = bridge;
+    let mut i: u8 = 0;
+    while i < 8 {
+        b = command(b, &[0x96]);
+        i += 1;
+    }
+    b
+}
+
+fn triplets_after(bridge: Bridge) -> Bridge {
+    let mut b = bridge;
+    let mut i: u8 = 0;
+    while i < 64 {
+        b = command(b, &[0x78, 0]);
+        i += 1;
+    }
+    b
+}
+
+fn round(bridge: Bridge, work: u8) -> Bridge {
+    let reset = command(bridge, &[0xB4]);
+    match work {
+        b'w' => bytes_after(command(reset, &[0xA5, 0xF0])),
+        b'r' => reads_after(command(reset, &[0xA5, 0x33])),
+        b's' => triplets_after(command(reset, &[0xA5, 0xF0])),
+        _ => reset,
+    }
+}
+
+fn rounds(before: Bridge, work: u8) -> Bridge {
+    let mut bridge = before;
+    let mut i: u32 = 0;
+    while i < 2000 {
+        bridge = round(bridge, work);
+        i += 1;
+    }
+    bridge
+}
+
+fn shown(bridge: Bridge) {
+    io::print_hex(1, bridge.read() as u64, 2);
+    io::write_all(1, b" ");
+    let answer = bridge.write(&[0xE1, 0xE1]);
+    let pointed = answer.bridge;
+    io::print_hex(1, pointed.read() as u64, 2);
+    io::write_all(1, b"\n");
 }
 
 fn main() {
+    let mut works = [0; 3];
+    let n = io::read_full(0, &mut works);
     let mut bridge = with_64();
-    let mut i: u32 = 0;
-    while i < 2000 {
-        bridge = round(bridge);
+    let mut i = 0;
+    while i < n {
+        bridge = rounds(bridge, works[i]);
+        shown(bridge);
         i += 1;
     }
-    io::print_hex(1, bridge.read() as u64, 2);
-    io::write_all(1, b"\n");
 }

@@ -5,10 +5,16 @@ use Rattle.bridge_speed.proofs.main.Statement.{statement}
 use Rattle.bridge_speed.proofs.main.Tie as tie
 
 abbrev Inv-loop : tie.InvT-loop
-Inv-loop bridge₀ i₀ t3 bridge i = i ≤ 2000
+Inv-loop works n bridge₀ i₀ bridge i = i ≤ n
 
 abbrev μ-loop : tie.MeasureT-loop
-μ-loop bridge₀ i₀ t3 bridge i = 2000 - i
+μ-loop works n bridge₀ i₀ bridge i = n - i
+
+slice-aggregate-read-full : tie.Need-slice-aggregate-read-full Inv-loop μ-loop
+slice-aggregate-read-full c = search needs
+
+read-full-requires : tie.Need-read-full-requires Inv-loop μ-loop
+read-full-requires c κs = search needs
 
 with-64-requires : tie.Need-with-64-requires Inv-loop μ-loop
 with-64-requires c κs = search needs
@@ -16,8 +22,14 @@ with-64-requires c κs = search needs
 loop-holds : tie.Need-loop-holds Inv-loop μ-loop
 loop-holds c = search needs
 
-round-requires : tie.Need-round-requires Inv-loop μ-loop
-round-requires c κs = search needs
+array-read-rounds : tie.Need-array-read-rounds Inv-loop μ-loop
+array-read-rounds c = search needs
+
+rounds-requires : tie.Need-rounds-requires Inv-loop μ-loop
+rounds-requires c κs = search needs
+
+shown-requires : tie.Need-shown-requires Inv-loop μ-loop
+shown-requires c κs = search needs
 
 add-i : tie.Need-add-i Inv-loop μ-loop
 add-i c = search needs
@@ -28,21 +40,6 @@ loop-less c = search needs
 loop-again : tie.Need-loop-again Inv-loop μ-loop
 loop-again c = search needs
 
-read-requires : tie.Need-read-requires Inv-loop μ-loop
-read-requires c κs = search needs
-
-cast-print-hex : tie.Need-cast-print-hex Inv-loop μ-loop
-cast-print-hex c = search needs
-
-print-hex-requires : tie.Need-print-hex-requires Inv-loop μ-loop
-print-hex-requires c κs = search needs
-
-slice-aggregate-write-all : tie.Need-slice-aggregate-write-all Inv-loop μ-loop
-slice-aggregate-write-all c = search needs
-
-write-all-requires : tie.Need-write-all-requires Inv-loop μ-loop
-write-all-requires c κs = search needs
-
 returns : tie.Need-returns Inv-loop μ-loop
 returns c = search needs
 
@@ -52,15 +49,14 @@ main-spec =
     (tie.spec
     Inv-loop
     μ-loop
+    slice-aggregate-read-full
+    read-full-requires
     with-64-requires
     loop-holds
-    round-requires
+    array-read-rounds
+    rounds-requires
+    shown-requires
     add-i
     loop-less
     loop-again
-    read-requires
-    cast-print-hex
-    print-hex-requires
-    slice-aggregate-write-all
-    write-all-requires
     returns)

@@ -1,0 +1,46 @@
+-- `bridge_speed::triplets_after` is safe and ends: its turns are counted.
+use borrow.Author.Needs.{needs}
+use Prim.Native.Nat.{_≤_, _-_}
+use Rattle.bridge_speed.proofs.triplets_after.Statement.{statement}
+use Rattle.bridge_speed.proofs.triplets_after.Tie as tie
+
+abbrev Inv-loop : tie.InvT-loop
+Inv-loop b₀ i₀ bytes b i = i ≤ 64
+
+abbrev μ-loop : tie.MeasureT-loop
+μ-loop b₀ i₀ bytes b i = 64 - i
+
+loop-holds : tie.Need-loop-holds Inv-loop μ-loop
+loop-holds c = search needs
+
+slice-aggregate-command : tie.Need-slice-aggregate-command Inv-loop μ-loop
+slice-aggregate-command c = search needs
+
+command-requires : tie.Need-command-requires Inv-loop μ-loop
+command-requires c κs = search needs
+
+add-i : tie.Need-add-i Inv-loop μ-loop
+add-i c = search needs
+
+loop-less : tie.Need-loop-less Inv-loop μ-loop
+loop-less c = search needs
+
+loop-again : tie.Need-loop-again Inv-loop μ-loop
+loop-again c = search needs
+
+returns : tie.Need-returns Inv-loop μ-loop
+returns c = search needs
+
+pub triplets-after-spec : {M : Type 1} → statement M
+triplets-after-spec =
+    tie.close
+    (tie.spec
+    Inv-loop
+    μ-loop
+    loop-holds
+    slice-aggregate-command
+    command-requires
+    add-i
+    loop-less
+    loop-again
+    returns)
