@@ -108,15 +108,13 @@ impl Bridge {
         ensures { λ r. ⌜ r ≡ finishedTriplet direction self ⌝ }
     {
         let line = self.line;
-        let first = line.slot(true);
-        let between = first.line;
-        let second = between.slot(true);
-        let last = second.line;
-        let bit = chosen(first.level, second.level, direction);
+        let two = line.two_slots();
+        let last = two.line;
+        let bit = chosen(two.first, two.second, direction);
         let third = last.slot(bit);
         self.dir = bit;
-        self.tsb = second.level;
-        self.sbr = first.level;
+        self.tsb = two.second;
+        self.sbr = two.first;
         let after = third.line;
         self.finished(after)
     }

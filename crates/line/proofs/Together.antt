@@ -1,6 +1,8 @@
 -- Several slots in one go.
 --   fitted-onFitted, onFitted-onFitted     the probes after something was done to each; two things in a row
 --   took-rests, tookBits-rests             a probe that rests is not changed
+--   all-map, all-of-map                    a test of what a function makes of each
+--   second-level, second-slot              the level of a second write-one slot, and the line after it
 --   quietFor-sends, quietFor-took          a quiet probe sends nothing, and a slot later it is quiet for the slots that are left
 --   slots-quiet                            on a line of quiet probes the levels are the bits that the bridge writes
 --   tookBits-next, slots-next              one slot more
@@ -18,7 +20,7 @@ use Rattle.probe.specs.declared.Probe.{Probe}
 use Rattle.probe.specs.Probe.{sends, sendsIn, took, tookIn, tookCode, tookMatching, agrees, digit, inCondition, withMark}
 use Rattle.line.specs.declared.Line.{Line}
 use Rattle.line.specs.Line.{all, fitted, onFitted, level, slot, slots}
-use Rattle.line.specs.Together.{rests, restsIn, quietFor, quietIn, tookBits}
+use Rattle.line.specs.Together.{rests, restsIn, quietFor, quietIn, tookBits, sendsAfter, tookTwo}
 use Rattle.line.proofs.Front.{first-of, rest-of, both}
 
 -- ---- what is done to each probe
@@ -40,6 +42,12 @@ module _ {A : Type 0} where
   all-map s t f h [] e = refl
   all-map s t f h (x ∷ l) e =
       both (t (f x)) (all t (map f l)) (h x (first-of (s x) (all s l) e)) (all-map s t f h l (rest-of (s x) (all s l) e))
+
+  -- a test after f is a test of what f makes
+  pub all-of-map : (t : A → Bool) (f : A → A) (l : List A) → all t (map f l) ≡ all (λ (x : A). t (f x)) l
+  unfolding all
+  all-of-map t f [] = refl
+  all-of-map t f (x ∷ l) = ap (λ (b : Bool). cond (t (f x)) b false) (all-of-map t f l)
 
 pub fitted-onFitted : (f : Probe → Probe) (l : Line) → fitted (onFitted f l) ≡ map f (fitted l)
 unfolding fitted onFitted
@@ -73,6 +81,15 @@ rests-in Selected b p e = refl
 pub took-rests : (b : Bool) (p : Probe) → rests p ≡ true → took b p ≡ p
 unfolding rests took
 took-rests b p e = rests-in (p .condition) b p e
+
+silent-in : (i : ℕ) (k : Condition) → restsIn k ≡ true → sendsIn i k ≡ true
+unfolding restsIn sendsIn
+silent-in i Deaf e = refl
+silent-in i (Taking n c) e = refl
+silent-in i (Sending k) e = absurd (false≢true e)
+silent-in i (Matching k) e = refl
+silent-in i (Searching k s) e = absurd (false≢true e)
+silent-in i Selected e = refl
 
 pub tookBits-rests : (n x : ℕ) (p : Probe) → rests p ≡ true → tookBits n x p ≡ p
 unfolding tookBits
@@ -149,6 +166,25 @@ slots-quiet (suc n) x l e =
     ∙ all-map (quietFor (suc n)) (quietFor n) (took w) (quietFor-took n w) (fitted l) e in
     ap (slots n (x / 2)) (slot-quiet n w l e) ∙ slots-quiet n (x / 2) (onFitted (took w) l) later
     ∙ onFitted-onFitted (tookBits n (x / 2)) (took w) l
+
+-- ---- two write-one slots
+
+pub rests-sends : (b : Bool) (p : Probe) → rests p ≡ true → sendsAfter b p ≡ true
+unfolding rests sends
+rests-sends b p e = ap sends (took-rests b p e) ∙ silent-in (p .id) (p .condition) e
+
+pub tookTwo-rests : (a b : Bool) (p : Probe) → rests p ≡ true → tookTwo a b p ≡ p
+tookTwo-rests a b p e = ap (took b) (took-rests a p e) ∙ took-rests b p e
+
+pub second-level : (l : Line) → level true (slot true l) ≡ all (sendsAfter (level true l)) (fitted l)
+unfolding level slot
+second-level l =
+    let a = all sends (fitted l) in
+    ap (all sends) (fitted-onFitted (took a) l) ∙ all-of-map sends (took a) (fitted l)
+
+pub second-slot : (l : Line) → slot true (slot true l) ≡ onFitted (tookTwo (level true l) (level true (slot true l))) l
+unfolding slot
+second-slot l = onFitted-onFitted (took (level true (onFitted (took (level true l)) l))) (took (level true l)) l
 
 -- ---- one slot more, for a loop that counts down
 

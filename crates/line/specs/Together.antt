@@ -2,13 +2,15 @@
 --   rests p          no slot changes p
 --   quietFor n p     p sends nothing in the next n slots, whatever their levels
 --   tookBits n x p   p after n slots whose levels are the low n bits of x, low bit first
+--   sendsAfter a p   what p lets the line be in the slot after one of level a
+--   tookTwo a b p    p after a slot of level a and one of level b
 use Prim.Native.Nat.{ℕ, zero, suc, _+_, _/_, _%_}
 use mathlib.Core.Bool.{Bool, true, false}
 use lib.Dec.{eqb, leb}
 use Rattle.probe.specs.declared.Condition.{Condition}
 use Rattle.probe.specs.declared.Condition.the-variants.{Deaf, Taking, Sending, Matching, Searching, Selected}
 use Rattle.probe.specs.declared.Probe.{Probe}
-use Rattle.probe.specs.Probe.{took}
+use Rattle.probe.specs.Probe.{sends, took}
 
 unfoldable pub restsIn : Condition → Bool
 restsIn Deaf = true
@@ -37,3 +39,9 @@ quietFor (suc n) p = quietIn (suc n) (p .condition)
 unfoldable pub tookBits : ℕ → ℕ → Probe → Probe
 tookBits zero x p = p
 tookBits (suc n) x p = tookBits n (x / 2) (took (eqb (x % 2) 1) p)
+
+abbrev pub sendsAfter : Bool → Probe → Bool
+sendsAfter a p = sends (took a p)
+
+abbrev pub tookTwo : Bool → Bool → Probe → Probe
+tookTwo a b p = took b (took a p)

@@ -7,10 +7,11 @@
 use probe::Condition;
 use probe::Probe;
 ghost use mathlib.Core.Path.{_≡_};
+ghost use mathlib.Core.Bool.{true};
 ghost use Prim.Native.Nat.{_<_, _≤_};
 ghost use lib.ListN.{length, take, drop};
 ghost use Rattle.line.specs.Line.{all, fitted, bare, onFitted, level, slot, slots, resetAll, present, isFitted, fitNumber, withProbe, afterFit};
-ghost use Rattle.line.specs.Together.{rests, quietFor, tookBits};
+ghost use Rattle.line.specs.Together.{rests, quietFor, tookBits, sendsAfter, tookTwo};
 ghost use Rattle.probe.specs.Probe.{sends, took, reset};
 
 // The numbers that fitting returns besides those of the ID itself ("Numbers returned").
@@ -32,6 +33,13 @@ pub struct Line {
 // A slot's level and the line after it.
 pub struct Slotted {
     pub level: bool,
+    pub line: Line,
+}
+
+// The levels of two slots and the line after them.
+pub struct TwoSlots {
+    pub first: bool,
+    pub second: bool,
     pub line: Line,
 }
 
@@ -84,6 +92,23 @@ fn took_byte(before: Probe, byte: u8) -> Probe
         left -= 1;
     }
     p
+}
+
+// What the probe lets the line be in the slot after one of this level.
+fn sends_after(p: Probe, level: bool) -> bool
+    ensures { λ r. ⌜ r ≡ sendsAfter level p ⌝ }
+{
+    if rests(p) {
+        true
+    } else {
+        p.took(level).sends()
+    }
+}
+
+fn took_two(p: Probe, first: bool, second: bool) -> Probe
+    ensures { λ r. ⌜ r ≡ tookTwo first second p ⌝ }
+{
+    p.took(first).took(second)
 }
 
 impl Line {
@@ -161,6 +186,52 @@ impl Line {
         Slotted {
             level,
             line: self.taken(level),
+        }
+    }
+
+    // No probe sends 0 in the slot after one of this level.
+    fn all_send_after(self, level: bool) -> bool
+        ensures { λ r. ⌜ r ≡ all (sendsAfter level) (fitted self) ⌝ }
+    {
+        let n = self.entries();
+        let mut i = 0;
+        while i < n {
+            let p = self.probes[i];
+            if !sends_after(p, level) {
+                return false;
+            }
+            i += 1;
+        }
+        true
+    }
+
+    // Every probe takes two levels, one after the other.
+    fn taken_two(mut self, first: bool, second: bool) -> Line
+        ensures { λ r. ⌜ r ≡ onFitted (tookTwo first second) self ⌝ }
+    {
+        let n = self.entries();
+        let mut i = 0;
+        while i < n {
+            let at = i;
+            let p = self.probes[at];
+            i += 1;
+            if !rests(p) {
+                self.probes[at] = took_two(p, first, second);
+            }
+        }
+        self
+    }
+
+    // Two slots in which the bridge writes 1. Both levels are found first, and then each probe takes them in one go.
+    pub fn two_slots(self) -> TwoSlots
+        ensures { λ r. ⌜ (r .first ≡ level true self) × (r .second ≡ level true (slot true self)) × (r .line ≡ slot true (slot true self)) ⌝ }
+    {
+        let first = self.all_send();
+        let second = self.all_send_after(first);
+        TwoSlots {
+            first,
+            second,
+            line: self.taken_two(first, second),
         }
     }
 

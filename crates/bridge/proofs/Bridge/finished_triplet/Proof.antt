@@ -1,20 +1,17 @@
--- `Bridge::finished_triplet` meets its contract, slot by slot.
+-- `Bridge::finished_triplet` meets its contract: two write-one slots, then the slot of the bit chosen.
 use Rattle.bridge.specs.Bridge.{finishedTriplet}
 use borrow.Author.Needs.{needs}
 use Rattle.bridge.proofs.Bridge.finished_triplet.Statement.{statement}
 use Rattle.bridge.proofs.Bridge.finished_triplet.Tie as tie
 
-slot-requires : tie.Need-slot-requires
-slot-requires c κs = search needs
-
-slot-requires-2 : tie.Need-slot-requires-2
-slot-requires-2 c κs = search needs
+two-slots-requires : tie.Need-two-slots-requires
+two-slots-requires c κs = search needs
 
 chosen-requires : tie.Need-chosen-requires
 chosen-requires c κs = search needs
 
-slot-requires-3 : tie.Need-slot-requires-3
-slot-requires-3 c κs = search needs
+slot-requires : tie.Need-slot-requires
+slot-requires c κs = search needs
 
 finished-requires : tie.Need-finished-requires
 finished-requires c κs = search needs
@@ -23,25 +20,10 @@ returns : tie.Need-returns
 unfolding finishedTriplet
 returns c =
     let third = c .before .before in
-    let second = third .before .before .before in
-    let first = second .before .before in
-    simp (
-      c .finished .ensures,
-      third .slot3 .ensures .1,
-      third .before .chosen .ensures,
-      second .slot2 .ensures .0,
-      second .slot2 .ensures .1,
-      first .slot .ensures .0,
-      first .slot .ensures .1,
-    )
+    let two = third .before .before .before .two-slots .ensures in
+    simp (c .finished .ensures, third .slot .ensures .1, third .before .chosen .ensures, two .0, two .1, two .2)
 
 pub finished-triplet-spec : {M : Type 1} → statement M
 finished-triplet-spec =
     tie.close
-    (tie.spec
-    slot-requires
-    slot-requires-2
-    chosen-requires
-    slot-requires-3
-    finished-requires
-    returns)
+    (tie.spec two-slots-requires chosen-requires slot-requires finished-requires returns)
