@@ -2,6 +2,7 @@
 --   direction i c k      the direction asked for at bit k, after a pass that ended at the ID i with the last conflict c
 --   tripled i c k w      the walk w after the triplet of bit k
 --   walked n k i c w     the walk w after the n triplets from bit k on
+--   begun b              the walk before its first triplet
 --   passed i c b         a pass from the bridge b on, where a probe is present
 --   searched n i c b     what at most n passes from the bridge b on come to
 --   search n b           what a search that is allowed n passes comes to: IDs, passes used, completeness, the bridge afterwards
@@ -17,9 +18,9 @@ use Rattle.identity.specs.Identity.{bitOf}
 use Rattle.probe.specs.Probe.{digit}
 use Rattle.bridge.specs.declared.Bridge.{Bridge}
 use Rattle.bridge.specs.Bridge.{command}
-use Rattle.search.specs.declared.Conflict.{Conflict}
-use Rattle.search.specs.declared.Conflict.the-variants.{Nowhere, At}
-use Rattle.search.specs.declared.Walk.{Walk}
+use Rattle.search.specs.declared.passes.Conflict.{Conflict}
+use Rattle.search.specs.declared.passes.Conflict.the-variants.{Nowhere, At}
+use Rattle.search.specs.declared.passes.Walk.{Walk}
 use Rattle.search.specs.declared.Answer.{Answer}
 use Rattle.search.specs.declared.Answer.the-variants.{Listed, Refused}
 
@@ -55,11 +56,13 @@ unfoldable pub walked : ℕ → ℕ → ℕ → Conflict → Walk → Walk
 walked zero k i c w = w
 walked (suc n) k i c w = walked n (suc k) i c (tripled i c k w)
 
+-- No bit has been taken yet.
+abbrev pub begun : Bridge → Walk
+begun b = record { bridge = b; id = 0; conflict = Nowhere; silent = false }
+
 -- Write Byte F0h and 64 triplets.
 unfoldable pub passed : ℕ → Conflict → Bridge → Walk
-passed i c b =
-    walked 64 0 i c
-    (record { bridge = command (0xA5 ∷ 0xF0 ∷ []) b; id = 0; conflict = Nowhere; silent = false })
+passed i c b = walked 64 0 i c (begun (command (0xA5 ∷ 0xF0 ∷ []) b))
 
 -- ---- the passes
 

@@ -4,21 +4,18 @@
 // F0h and 64 triplets, through the bridge's own calls with time passing after each.
 //
 // Worked example: with A, B and C fitted, b = 2 lists C and B and is not complete; b = 3 lists C, B, A, complete, in 3 passes.
+mod listing;
+mod passes;
+
 use bridge::Bridge;
+ghost use mathlib.Core.Path.{_≡_};
+ghost use Prim.Native.Nat.{min};
+ghost use Rattle.search.specs.Search.{answerOf, bufferOf, bridgeOf};
 
-// The highest bit of a pass at which both levels were 0 and 0 was taken, if there is one.
-pub enum Conflict {
-    Nowhere,
-    At { bit: u8 },
-}
+// The refusals of a search, by their numbers in the table of document 01.
+pub const REFUSED_SHORT: u8 = 9;
 
-// A pass under way: the bridge, the bits taken so far as a number, the last conflict so far, and whether both levels of a triplet were 1.
-pub struct Walk {
-    pub bridge: Bridge,
-    pub id: u64,
-    pub conflict: Conflict,
-    pub silent: bool,
-}
+pub const REFUSED_SILENT: u8 = 10;
 
 pub enum Answer {
     // So many IDs are listed, by so many passes, and whether the list is complete.
@@ -35,4 +32,47 @@ pub enum Answer {
 pub struct Searched {
     pub answer: Answer,
     pub bridge: Bridge,
+}
+
+// More passes than there is room for probes do nothing more.
+fn at_most(b: u16) -> usize
+    ensures { λ r. ⌜ r ≡ min b 64 ⌝ }
+{
+    if b < 64 { b as usize } else { 64 }
+}
+
+fn refused(number: u8, bridge: Bridge) -> Searched
+    ensures { λ r. ⌜ (r .answer ≡ Answer.Refused number) × (r .bridge ≡ bridge) ⌝ }
+{
+    Searched {
+        answer: Answer::Refused { number },
+        bridge,
+    }
+}
+
+// The search. The IDs come to lie at the front of the list, eight bytes each; a refused search changes nothing.
+pub fn search(bridge: Bridge, b: u16, list: &mut [u8]) -> Searched
+    ensures { λ r. ⌜ r .answer ≡ answerOf b (now (list .entry)) bridge ⌝ }
+    ensures { λ r. ⌜ r .bridge ≡ bridgeOf b (now (list .entry)) bridge ⌝ }
+    ensures { λ _. ⌜ now (list .exit) ≡ bufferOf b (now (list .entry)) bridge ⌝ }
+{
+    let allowed = at_most(b);
+    if list.len() < 8 * allowed {
+        return refused(REFUSED_SHORT, bridge);
+    }
+    let found = passes::all(allowed, bridge);
+    if found.silent {
+        return refused(REFUSED_SILENT, bridge);
+    }
+    let ids = found.ids;
+    listing::put(list, &ids, found.count);
+    let after = found.bridge;
+    Searched {
+        answer: Answer::Listed {
+            count: found.count,
+            passes: found.passes,
+            complete: found.complete,
+        },
+        bridge: after,
+    }
 }

@@ -1,0 +1,244 @@
+-- What holds of every state that calls reach.
+--   Kept l            the line l has IDs and free entries, 64 together, the IDs distinct and of 64 bits
+--   holds-fit         an accepted fitting adds its ID behind the others; new-id, it was none of them
+--   reached-kept      the IDs are distinct numbers of 64 bits in a table of 64 entries; reached-sound, the same in the words of `Sound`
+--   reached-search    a search leads from such a state to such a state
+use mathlib.Core.Path.{_≡_, refl, sym, ap, subst, subst⁻¹, _∙_}
+use mathlib.Core.Bool.{Bool, true, false, cond, true≢false, false≢true}
+use mathlib.Core.List.{List, [], _∷_, _++_, map-append, List·Memᴰ·cases-cons, List·Memᴰ·not-nil, List·Memᴰ·eq-of-singleton, List·Memᴰ·append-cases}
+use mathlib.Core.List.List·Memᴰ.{List·Memᴰ·head, List·Memᴰ·tail}
+use mathlib.Core.Logic.{_⊎_, inl, inr, ⊎-elim}
+use Prim.Native.Nat.{ℕ, zero, suc, _+_, _^_, _<_}
+use native.Mathlib.Nat.{pow-suc}
+use native.Mathlib.Omega.{arith}
+use borrow.Author.Tests.{eq-eqb, eqb-true, eqb-false, leb-false}
+use lib.Dec.{eqb, leb, lit<}
+use lib.ListN.{length, set, replicate, length-append, length-map}
+use lib.Seq.{set-append-seam, append-snoc}
+use Rattle.identity.specs.Identity.{numberOf, refusalOf}
+use Rattle.probe.specs.declared.Probe.{Probe}
+use Rattle.probe.specs.Probe.{deafNew}
+use Rattle.line.specs.declared.Line.{Line}
+use Rattle.line.specs.Line.{any, idOf, idsOf, bare, isFitted, placeNumber, fitNumber, withProbe, afterFit}
+use Rattle.bridge.specs.declared.Bridge.{Bridge}
+use Rattle.bridge.specs.Bridge.{powerOn, afterFitting, command}
+use Rattle.bridge.proofs.Reach.{reached-command}
+use Rattle.bridge.specs.Reached.{Bytes, Reached}
+use Rattle.bridge.specs.Reached.Reached.{on, write, wait, fit}
+use Rattle.search.specs.declared.passes.Conflict.{Conflict}
+use Rattle.search.specs.declared.passes.Conflict.the-variants.{Nowhere, At}
+use Rattle.search.specs.declared.passes.Walk.{Walk}
+use Rattle.search.specs.Search.{direction, tripletByte, tookTriplet, tripled, walked, passed, Result, absent, broken, continued, searched, search}
+use Rattle.enumeration.specs.Order.{Among, Distinct, Narrow}
+use Rattle.search.proofs.Words.{Rest, lineOf, Holds}
+use Rattle.search.proofs.Words.Rest.{free}
+use Rattle.search.proofs.Holds.{holds-time, write-line}
+use Rattle.demand.specs.Sound.{Sound}
+use Rattle.search.proofs.Wire.{line-path, idsOf-lineOf}
+
+pub record Kept (l : Line) : Type 0 where
+  pub ids : List ℕ
+  pub entries : List Probe
+  pub holds : Holds ids (free entries) l
+  pub full : length ids + length entries ≡ 64
+  pub distinct : Distinct ids
+  pub narrow : Narrow ids
+
+-- ---- fitting
+
+-- an accepted ID is new, and there is room for it
+accepted : (x : List ℕ) (l : Line) → fitNumber x l ≡ 0 → (isFitted (numberOf x) l ≡ false) × (l .count < 64)
+unfolding fitNumber placeNumber
+accepted x l = go (eqb (refusalOf x) 0) refl (isFitted (numberOf x) l) (leb 64 (l .count)) refl
+  where
+    go : (r : Bool) → eqb (refusalOf x) 0 ≡ r → (t v : Bool) → leb 64 (l .count) ≡ v → cond r (cond t 4 (cond v 1 0)) (refusalOf x) ≡ 0 → (t ≡ false) × (l .count < 64)
+    go true er true v ev e = absurd (omega arith)
+    go true er false true ev e = absurd (omega arith)
+    go true er false false ev e = (refl, leb-false 64 (l .count) ev)
+    go false er t v ev e = absurd (false≢true (sym er ∙ eq-eqb (refusalOf x) 0 e))
+
+any-among : (i : ℕ) (ids : List ℕ) → any (eqb i) ids ≡ false → Among i ids → ⊥
+unfolding any
+any-among i [] e m = List·Memᴰ·not-nil m
+any-among i (j ∷ ids) e m = go (eqb i j) refl e (any-among i ids) (List·Memᴰ·cases-cons m)
+  where
+    go : (t : Bool) → eqb i j ≡ t → cond t true (any (eqb i) ids) ≡ false → (any (eqb i) ids ≡ false → Among i ids → ⊥) → (i ≡ j) ⊎ Among i ids → ⊥
+    go true et f rec y = true≢false f
+    go false et f rec (inl y) = eqb-false i j et y
+    go false et f rec (inr y) = rec f y
+
+distinct-more : (ids : List ℕ) (i : ℕ) → Distinct ids → (Among i ids → ⊥) → Distinct (ids ++ i ∷ [])
+distinct-more [] i d n = (λ m. List·Memᴰ·not-nil m, tt)
+distinct-more (j ∷ ids) i d n = (
+  λ m.
+      ⊎-elim (λ y. d .0 y) (λ y. n (List·Memᴰ·head (sym (List·Memᴰ·eq-of-singleton y)))) (List·Memᴰ·append-cases ids m),
+  distinct-more ids i (d .1) (λ m. n (List·Memᴰ·tail m)),
+)
+
+pub numberOf-lt : (x : List ℕ) → Bytes x → numberOf x < 256 ^ length x
+unfolding numberOf
+numberOf-lt [] b = lit< tt
+numberOf-lt (y ∷ x) b = omega (arith, pow-suc 256 (length x), b 0, numberOf-lt x (λ k. b (suc k)))
+
+-- the new probe takes the first free entry
+withProbe-lineOf : (i : ℕ) (ps : List Probe) (q : Probe) (rest : List Probe) → withProbe i (lineOf ps (free (q ∷ rest))) ≡ lineOf (ps ++ deafNew i ∷ []) (free rest)
+unfolding withProbe
+withProbe-lineOf i ps q rest =
+    line-path (set (ps ++ q ∷ rest) (length ps) (deafNew i)) ((ps ++ deafNew i ∷ []) ++ rest) (length ps + 1)
+    (length (ps ++ deafNew i ∷ []))
+    (set-append-seam ps q rest (deafNew i) ∙ sym (append-snoc ps (deafNew i) rest))
+    (sym (length-append ps (deafNew i ∷ [])))
+
+afterFit-accepted : (x : List ℕ) (l : Line) → fitNumber x l ≡ 0 → afterFit x l ≡ withProbe (numberOf x) l
+unfolding afterFit
+afterFit-accepted x l e = ap (λ (t : Bool). cond t (withProbe (numberOf x) l) l) (eq-eqb (fitNumber x l) 0 e)
+
+afterFit-refused : (x : List ℕ) (l : Line) → eqb (fitNumber x l) 0 ≡ false → afterFit x l ≡ l
+unfolding afterFit
+afterFit-refused x l e = ap (λ (t : Bool). cond t (withProbe (numberOf x) l) l) e
+
+pub holds-length : {ids : List ℕ} {entries : List Probe} {l : Line} → Holds ids (free entries) l → l .count ≡ length ids
+holds-length h = ap (λ (l : Line). l .count) (h .line) ∙ sym (length-map (h .probes) idOf) ∙ ap length (h .same)
+
+pub holds-ids : {ids : List ℕ} {rest : Rest} {l : Line} → Holds ids rest l → idsOf l ≡ ids
+holds-ids {rest = rest} h = ap idsOf (h .line) ∙ idsOf-lineOf (h .probes) rest ∙ h .same
+
+-- an accepted ID is none of those that are there
+pub new-id : {ids : List ℕ} {rest : Rest} (x : List ℕ) {l : Line} → Holds ids rest l → fitNumber x l ≡ 0 → Among (numberOf x) ids → ⊥
+unfolding isFitted
+new-id {ids} x {l} h e =
+    any-among (numberOf x) ids (ap (any (eqb (numberOf x))) (sym (holds-ids h)) ∙ accepted x l e .0)
+
+pub holds-fit : {ids : List ℕ} (rest : List Probe) (x : List ℕ) {l : Line} → Holds ids (free rest) l → length ids + length rest ≡ 64 → fitNumber x l ≡ 0 → (q : List Probe) × (length rest ≡ suc (length q)) × Holds (ids ++ numberOf x ∷ []) (free q) (afterFit x l)
+holds-fit {ids} [] x {l} h full e = absurd (omega (arith, accepted x l e .1, holds-length h))
+holds-fit {ids} (q ∷ rest) x {l} h full e = (
+  rest,
+  refl,
+  record {
+    probes = h .probes ++ deafNew (numberOf x) ∷ [];
+    line =
+        afterFit-accepted x l e ∙ ap (withProbe (numberOf x)) (h .line) ∙ withProbe-lineOf (numberOf x) (h .probes) q rest;
+    same = map-append idOf (h .probes) (deafNew (numberOf x) ∷ []) ∙ ap (λ (y : List ℕ). y ++ numberOf x ∷ []) (h .same);
+  },
+)
+
+-- ---- every state that calls reach
+
+kept-same : {l m : Line} (k : Kept l) → Holds (k .ids) (free (k .entries)) m → Kept m
+kept-same k h =
+    record { ids = k .ids; entries = k .entries; holds = h; full = k .full; distinct = k .distinct; narrow = k .narrow }
+
+pub kept-fit : (x : List ℕ) → Bytes x → length x ≡ 8 → {l : Line} → Kept l → fitNumber x l ≡ 0 → Kept (afterFit x l)
+kept-fit x bytes eight {l} k e =
+    let more = holds-fit (k .entries) x (k .holds) (k .full) e in
+    record {
+      ids = k .ids ++ numberOf x ∷ [];
+      entries = more .0;
+      holds = more .2;
+      full = omega (arith, length-append (k .ids) (numberOf x ∷ []), more .1, k .full);
+      distinct = distinct-more (k .ids) (numberOf x) (k .distinct) (new-id x (k .holds) e);
+      narrow =
+          λ i m.
+          ⊎-elim (λ y. k .narrow i y)
+          (λ y. subst⁻¹ (λ (j : ℕ). j < 2 ^ 64) (List·Memᴰ·eq-of-singleton y) (subst (λ (n : ℕ). numberOf x < 256 ^ n) eight (numberOf-lt x bytes)))
+          (List·Memᴰ·append-cases (k .ids) m);
+    }
+
+kept-fitting : (x : List ℕ) → Bytes x → length x ≡ 8 → {l : Line} → Kept l → Kept (afterFit x l)
+kept-fitting x bytes eight {l} k = go (eqb (fitNumber x l) 0) refl
+  where
+    go : (t : Bool) → eqb (fitNumber x l) 0 ≡ t → Kept (afterFit x l)
+    go true e = kept-fit x bytes eight k (eqb-true (fitNumber x l) 0 e)
+    go false e = subst⁻¹ Kept (afterFit-refused x l e) k
+
+pub reached-kept : {b : Bridge} → Reached b → Kept (b .line)
+unfolding powerOn bare afterFitting
+reached-kept on =
+    record {
+      ids = [];
+      entries = replicate 64 (deafNew 0);
+      holds = record { probes = []; line = refl; same = refl };
+      full = refl;
+      distinct = tt;
+      narrow = λ i m. absurd (List·Memᴰ·not-nil m);
+    }
+reached-kept (write x bytes {b} r) = subst⁻¹ Kept (write-line x b) (reached-kept r)
+reached-kept (wait {b} r) = kept-same (reached-kept r) (holds-time b (reached-kept r .holds))
+reached-kept (fit x bytes eight r) = kept-fitting x bytes eight (reached-kept r)
+
+kept-sound : {l : Line} → Kept l → Sound l
+kept-sound {l} k =
+    record {
+      entries =
+          ap (λ (m : Line). length (m .probes)) (k .holds .line) ∙ length-append (k .holds .probes) (k .entries)
+          ∙ ap (λ (n : ℕ). n + length (k .entries)) (sym (length-map (k .holds .probes) idOf) ∙ ap length (k .holds .same))
+          ∙ k .full;
+      within = omega (arith, holds-length (k .holds), k .full);
+      counted = ap length (holds-ids (k .holds)) ∙ sym (holds-length (k .holds));
+      distinct = subst⁻¹ Distinct (holds-ids (k .holds)) (k .distinct);
+      narrow = subst⁻¹ Narrow (holds-ids (k .holds)) (k .narrow);
+    }
+
+pub reached-sound : {b : Bridge} → Reached b → Sound (b .line)
+reached-sound r = kept-sound (reached-kept r)
+
+-- ---- a search is made of calls
+
+bytes-one : (x : ℕ) → x < 256 → Bytes (x ∷ [])
+bytes-one x h zero = h
+bytes-one x h (suc k) = lit< tt
+
+bytes-two : (x y : ℕ) → x < 256 → y < 256 → Bytes (x ∷ y ∷ [])
+bytes-two x y h g zero = h
+bytes-two x y h g (suc k) = bytes-one y g k
+
+-- a 1-Wire Reset; a Write Byte
+pub reached-reset : {b : Bridge} → Reached b → Reached (command (0xB4 ∷ []) b)
+reached-reset r = reached-command (0xB4 ∷ []) (bytes-one 0xB4 (lit< tt)) r
+
+pub reached-byte : (x : ℕ) → x < 256 → {b : Bridge} → Reached b → Reached (command (0xA5 ∷ x ∷ []) b)
+reached-byte x h r = reached-command (0xA5 ∷ x ∷ []) (bytes-two 0xA5 x (lit< tt) h) r
+
+reached-triplet : (d : Bool) {b : Bridge} → Reached b → Reached (command (0x78 ∷ tripletByte d ∷ []) b)
+reached-triplet true r = reached-command (0x78 ∷ 128 ∷ []) (bytes-two 0x78 128 (lit< tt) (lit< tt)) r
+reached-triplet false r = reached-command (0x78 ∷ 0 ∷ []) (bytes-two 0x78 0 (lit< tt) (lit< tt)) r
+
+reached-walked : (n k i : ℕ) (c : Conflict) (w : Walk) → Reached (w .bridge) → Reached (walked n k i c w .bridge)
+unfolding walked tripled tookTriplet
+reached-walked zero k i c w r = r
+reached-walked (suc n) k i c w r = reached-walked n (suc k) i c (tripled i c k w) (reached-triplet (direction i c k) r)
+
+reached-passed : (i : ℕ) (c : Conflict) {b : Bridge} → Reached b → Reached (passed i c b .bridge)
+unfolding passed
+reached-passed i c {b} r =
+    reached-walked 64 0 i c
+    (record { bridge = command (0xA5 ∷ 0xF0 ∷ []) b; id = 0; conflict = Nowhere; silent = false })
+    (reached-byte 0xF0 (lit< tt) r)
+
+reached-searched : (m i : ℕ) (c : Conflict) (b : Bridge) → Reached b → Reached (searched m i c b .bridge)
+unfolding searched continued
+reached-searched zero i c b r = r
+reached-searched (suc m) i c b r =
+    go (reset .ppd) (w .silent) (w .conflict) (searched m (w .id) (w .conflict) (w .bridge))
+    (reached-searched m (w .id) (w .conflict) (w .bridge) end)
+  where
+    reset : Bridge
+    reset = command (0xB4 ∷ []) b
+
+    w : Walk
+    w = passed i c reset
+
+    end : Reached (w .bridge)
+    end = reached-passed i c (reached-reset r)
+
+    go : (t s : Bool) (q : Conflict) (rest : Result) → Reached (rest .bridge) → Reached (cond t (cond s (broken (w .bridge)) (continued q w rest)) (absent reset) .bridge)
+    go true true q rest f = end
+    go true false Nowhere rest f = end
+    go true false (At k) rest f = f
+    go false s q rest f = reached-reset r
+
+pub reached-search : (m : ℕ) {b : Bridge} → Reached b → Reached (search m b .bridge)
+unfolding search
+reached-search zero r = r
+reached-search (suc m) {b} r =
+    reached-searched (suc m) 0 Nowhere (command (0xF0 ∷ []) b) (reached-command (0xF0 ∷ []) (bytes-one 0xF0 (lit< tt)) r)

@@ -1,0 +1,5 @@
+pub mod Tree
+pub mod Bits
+pub mod Passes
+pub mod Order
+pub mod Leaves

@@ -1,0 +1,31 @@
+-- `passes::direction` meets its contract: by where the last conflict was, and on which side of it bit k lies.
+use borrow.Author.Tests.{lt-ltb, le-ltb}
+use Rattle.search.specs.Search.{direction}
+use borrow.Author.Needs.{needs}
+use Rattle.search.proofs.passes.direction.Statement.{statement}
+use Rattle.search.proofs.passes.direction.Tie as tie
+
+enum-told : tie.Need-enum-told
+enum-told c = search needs
+
+enum-known-conflict : tie.Need-enum-known-conflict
+enum-known-conflict c = search needs
+
+bit-requires : tie.Need-bit-requires
+bit-requires c κs = search needs
+
+returns : tie.Need-returns
+unfolding direction
+returns c = simp (c .enum-told .given .1)
+
+returns-2 : tie.Need-returns-2
+unfolding direction
+returns-2 c = simp (c .before .before .before .conflict .given .1, lt-ltb _ _ (c .before .if1 .taken)) (c .bit .ensures)
+
+returns-3 : tie.Need-returns-3
+unfolding direction
+returns-3 c = simp (c .before .before .conflict .given .1, le-ltb _ _ (c .if1 .left))
+
+pub direction-spec : {M : Type 1} → statement M
+direction-spec =
+    tie.close (tie.spec enum-told enum-known-conflict bit-requires returns returns-2 returns-3)

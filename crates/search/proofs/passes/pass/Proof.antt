@@ -1,0 +1,21 @@
+-- `passes::pass` meets its contract: Search ROM is written, and the triplets follow.
+use Rattle.search.specs.Search.{passed}
+use borrow.Author.Needs.{needs}
+use Rattle.search.proofs.passes.pass.Statement.{statement}
+use Rattle.search.proofs.passes.pass.Tie as tie
+
+slice-aggregate-command : tie.Need-slice-aggregate-command
+slice-aggregate-command c = search needs
+
+command-requires : tie.Need-command-requires
+command-requires c κs = search needs
+
+triplets-requires : tie.Need-triplets-requires
+triplets-requires c κs = search needs
+
+returns : tie.Need-returns
+unfolding passed
+returns c = cc
+
+pub pass-spec : {M : Type 1} → statement M
+pass-spec = tie.close (tie.spec slice-aggregate-command command-requires triplets-requires returns)

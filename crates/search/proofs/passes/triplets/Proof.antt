@@ -1,0 +1,79 @@
+-- `passes::triplets` meets its contract: what is left of the walk is the triplets from bit k on.
+use mathlib.Core.Path.{_≡_, refl, sym, _∙_}
+use Prim.Native.Nat.{_^_, _<_, _≤_, _-_}
+use native.Mathlib.Omega.{arith}
+use lib.Dec.{lit<}
+use Rattle.search.specs.Search.{walked, begun, tripled, tookTriplet}
+use Rattle.search.proofs.Walked.{walked-next, walked-none}
+use borrow.Author.Needs.{needs}
+use Rattle.search.proofs.passes.triplets.Statement.{statement}
+use Rattle.search.proofs.passes.triplets.Tie as tie
+
+abbrev Inv-loop : tie.InvT-loop
+Inv-loop previous before bridge₀ id₀ conflict₀ silent₀ k₀ bridge id conflict silent k =
+    (k ≤ 64) × (id < 2 ^ k)
+    × (walked 64 0 previous before (begun bridge₀)
+    ≡ walked (64 - k) k previous before (record { bridge = bridge; id = id; conflict = conflict; silent = silent }))
+
+abbrev μ-loop : tie.MeasureT-loop
+μ-loop previous before bridge₀ id₀ conflict₀ silent₀ k₀ bridge id conflict silent k = 64 - k
+
+loop-holds : tie.Need-loop-holds Inv-loop μ-loop
+loop-holds c = (omega arith, lit< tt, refl)
+
+direction-requires : tie.Need-direction-requires Inv-loop μ-loop
+direction-requires c κs = search needs
+
+triplet-byte-requires : tie.Need-triplet-byte-requires Inv-loop μ-loop
+triplet-byte-requires c κs = search needs
+
+slice-aggregate-command : tie.Need-slice-aggregate-command Inv-loop μ-loop
+slice-aggregate-command c = search needs
+
+command-requires : tie.Need-command-requires Inv-loop μ-loop
+command-requires c κs = search needs
+
+with-bit-requires : tie.Need-with-bit-requires Inv-loop μ-loop
+with-bit-requires c κs = search needs
+
+noted-requires : tie.Need-noted-requires Inv-loop μ-loop
+noted-requires c κs = search needs
+
+unheard-requires : tie.Need-unheard-requires Inv-loop μ-loop
+unheard-requires c κs = search needs
+
+add-k : tie.Need-add-k Inv-loop μ-loop
+add-k c = search needs
+
+loop-less : tie.Need-loop-less Inv-loop μ-loop
+loop-less c = omega arith
+
+loop-again : tie.Need-loop-again Inv-loop μ-loop
+unfolding tripled tookTriplet
+loop-again c =
+    let l = c .before .before .before .before .before .before .before .before .loop in
+    (omega arith, c .before .before .with-bit .ensures .1, l .inv .2 ∙ walked-next _ _ _ _ (omega arith) (cc))
+
+returns : tie.Need-returns Inv-loop μ-loop
+returns c =
+    let l = c .before .loop in
+    let stop : l .k ≡ 64 = omega arith in sym (l .inv .2 ∙ walked-none _ _ _ _ stop)
+
+pub triplets-spec : {M : Type 1} → statement M
+triplets-spec =
+    tie.close
+    (tie.spec
+    Inv-loop
+    μ-loop
+    loop-holds
+    direction-requires
+    triplet-byte-requires
+    slice-aggregate-command
+    command-requires
+    with-bit-requires
+    noted-requires
+    unheard-requires
+    add-k
+    loop-less
+    loop-again
+    returns)
