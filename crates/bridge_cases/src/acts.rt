@@ -1,8 +1,18 @@
-// The calls of the bridge, each with the line that it prints.
+// What the letters of a case do, each with the line that it prints.
+use crate::hex;
 use crate::say;
+use crate::show;
 use bridge::Bridge;
+ghost use Prim.Native.Nat.{_<_, _≤_};
+ghost use lib.ListN.{length};
 
-pub fn write(bridge: Bridge, bytes: &[u8]) -> Bridge {
+const A: [u8; 8] = [0x19, 0x01, 0, 0, 0, 0, 0, 0x00];
+
+const B: [u8; 8] = [0x19, 0x02, 0, 0, 0, 0, 0, 0x59];
+
+const C: [u8; 8] = [0x02, 0x1C, 0xB8, 0x01, 0, 0, 0, 0xA2];
+
+fn write_bytes(bridge: Bridge, bytes: &[u8]) -> Bridge {
     let answer = bridge.write(bytes);
     say::text(b"write");
     say::bytes(bytes);
@@ -13,18 +23,25 @@ pub fn write(bridge: Bridge, bytes: &[u8]) -> Bridge {
     after
 }
 
-pub fn read(bridge: Bridge) {
+fn write(bridge: Bridge, text: &[u8]) -> Bridge {
+    let mut bytes = [0u8; 16];
+    let n = hex::decode(text, &mut bytes);
+    write_bytes(bridge, &bytes[..n])
+}
+
+fn read(bridge: Bridge) -> Bridge {
     say::text(b"read: ");
     say::byte(bridge.read());
     say::end();
+    bridge
 }
 
-pub fn wait(bridge: Bridge) -> Bridge {
+fn wait(bridge: Bridge) -> Bridge {
     say::text(b"time passes\n");
     bridge.wait()
 }
 
-pub fn fit(bridge: Bridge, id: &[u8; 8]) -> Bridge {
+fn fit(bridge: Bridge, id: &[u8; 8]) -> Bridge {
     let answer = bridge.fit(id);
     say::text(b"fit");
     say::bytes(id);
@@ -35,42 +52,47 @@ pub fn fit(bridge: Bridge, id: &[u8; 8]) -> Bridge {
     after
 }
 
-// A write, time, and what is read then.
-pub fn command(bridge: Bridge, bytes: &[u8]) -> Bridge {
-    let after = wait(write(bridge, bytes));
-    read(after);
-    after
+fn fit_given(bridge: Bridge, text: &[u8]) -> Bridge {
+    let mut bytes = [0u8; 16];
+    hex::decode(text, &mut bytes);
+    let id = [
+        bytes[0],
+        bytes[1],
+        bytes[2],
+        bytes[3],
+        bytes[4],
+        bytes[5],
+        bytes[6],
+        bytes[7],
+    ];
+    fit(bridge, &id)
 }
 
-// A 1-Wire reset and a ROM command, of which only the line prints.
-pub fn rom(bridge: Bridge, code: u8) -> Bridge {
-    say::text(b"ROM command ");
-    say::byte(code);
-    say::end();
-    let reset = bridge.write(b"\xB4").bridge.wait();
-    send(reset, code)
-}
-
-pub fn send(bridge: Bridge, byte: u8) -> Bridge {
-    let bytes = [0xA5, byte];
+fn send_byte(bridge: Bridge, byte: u8) -> Bridge {
+    let bytes = [Bridge::WRITE_BYTE, byte];
     bridge.write(&bytes).bridge.wait()
 }
 
-// The bits of an ID, as a match takes them.
-pub fn send_id(bridge: Bridge, id: &[u8; 8]) -> Bridge {
-    say::text(b"send");
-    say::bytes(id);
-    say::end();
+fn send_bytes(bridge: Bridge, bytes: &[u8]) -> Bridge {
     let mut b = bridge;
     let mut i = 0;
-    while i < 8 {
-        b = send(b, id[i]);
+    while i < bytes.len() {
+        b = send_byte(b, bytes[i]);
         i += 1;
     }
     b
 }
 
-// The line's next byte, by way of the read-data register.
+fn send(bridge: Bridge, text: &[u8]) -> Bridge {
+    let mut bytes = [0u8; 16];
+    let n = hex::decode(text, &mut bytes);
+    say::text(b"reset, send");
+    say::bytes(&bytes[..n]);
+    say::end();
+    let reset = bridge.write(b"\xB4").bridge.wait();
+    send_bytes(reset, &bytes[..n])
+}
+
 fn receive_byte(bridge: Bridge) -> Bridge {
     let read = bridge.write(b"\x96").bridge.wait();
     let pointed = read.write(b"\xE1\xE1").bridge;
@@ -78,7 +100,7 @@ fn receive_byte(bridge: Bridge) -> Bridge {
     pointed
 }
 
-pub fn receive(bridge: Bridge) -> Bridge {
+fn receive(bridge: Bridge) -> Bridge {
     say::text(b"receive");
     let mut b = bridge;
     let mut i: u8 = 0;
@@ -94,13 +116,89 @@ fn triplet(bridge: Bridge) -> Bridge {
     bridge.write(b"\x78\x00").bridge.wait()
 }
 
-// The triplets of a pass, each with the direction 0.
-pub fn pass(bridge: Bridge) -> Bridge {
+fn pass(bridge: Bridge) -> Bridge {
     say::text(b"64 triplets 78 00\n");
     let mut b = bridge;
     let mut i: u8 = 0;
     while i < 64 {
         b = triplet(b);
+        i += 1;
+    }
+    b
+}
+
+// The probe of family 19h with this serial number; nothing is printed.
+fn fit_serial(bridge: Bridge, n: u8) -> Bridge {
+    let mut id = [0x19, n, 0, 0, 0, 0, 0, 0];
+    let first = [0x19, n, 0, 0, 0, 0, 0];
+    id[7] = checksum::crc8(&first);
+    bridge.fit(&id).bridge
+}
+
+fn fit_63(bridge: Bridge) -> Bridge {
+    say::text(b"fit 63 probes\n");
+    let mut b = bridge;
+    let mut i: u8 = 1;
+    while i < 64 {
+        b = fit_serial(b, i);
+        i += 1;
+    }
+    b
+}
+
+// The effect of a letter, with the text of the bytes before it.
+fn act(bridge: Bridge, letter: u8, text: &[u8]) -> Bridge {
+    match letter {
+        b'w' => write(bridge, text),
+        b'i' => fit_given(bridge, text),
+        b's' => send(bridge, text),
+        b'r' => read(bridge),
+        b't' => wait(bridge),
+        b'a' => fit(bridge, &A),
+        b'b' => fit(bridge, &B),
+        b'c' => fit(bridge, &C),
+        _ => more(bridge, letter),
+    }
+}
+
+fn more(bridge: Bridge, letter: u8) -> Bridge {
+    match letter {
+        b'g' => receive(bridge),
+        b'd' => pass(bridge),
+        b'f' => fit_63(bridge),
+        b'p' => show::probes(bridge),
+        _ => bridge,
+    }
+}
+
+// Where the text before place i begins: behind the letter before it.
+fn start(case: &[u8], i: usize) -> usize
+    requires { ⌜ i ≤ length (now case) ⌝ }
+    ensures { λ r. ⌜ r ≤ i ⌝ }
+{
+    let mut j = i;
+    while 0 < j {
+        if b'a' <= case[j - 1] {
+            return j;
+        }
+        j -= 1;
+    }
+    j
+}
+
+fn step(bridge: Bridge, case: &[u8], i: usize) -> Bridge
+    requires { ⌜ i < length (now case) ⌝ }
+{
+    let letter = case[i];
+    let from = start(case, i);
+    act(bridge, letter, &case[from..i])
+}
+
+pub fn run(bridge: Bridge, case: &[u8]) -> Bridge {
+    let mut b = bridge;
+    let mut i = 0;
+    while i < case.len() {
+        b = step(b, case, i);
         i += 1;
     }
     b

@@ -42,9 +42,10 @@ fn at(line: Line, i: usize) -> Probe {
     line.probes[i % 64]
 }
 
-// The probe at a place of the line, from 0.
-pub fn probe(bridge: Bridge, i: usize) {
-    let line = bridge.line;
+fn probe(line: Line, i: usize) {
+    if line.count <= i {
+        return;
+    }
     let p = at(line, i);
     say::text(b"probe ");
     say::byte((p.id % 256) as u8);
@@ -56,4 +57,13 @@ pub fn probe(bridge: Bridge, i: usize) {
         say::text(b", marked");
     }
     say::end();
+}
+
+// The probes of the first three places, as far as they are fitted.
+pub fn probes(bridge: Bridge) -> Bridge {
+    let line = bridge.line;
+    probe(line, 0);
+    probe(line, 1);
+    probe(line, 2);
+    bridge
 }

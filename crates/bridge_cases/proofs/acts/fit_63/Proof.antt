@@ -1,8 +1,8 @@
--- `fits::with_63` is safe and ends: it turns 63 times.
+-- `acts::fit_63` is safe and ends: it turns 63 times.
 use borrow.Author.Needs.{needs}
 use Prim.Native.Nat.{_≤_, _-_}
-use Rattle.bridge_cases.proofs.fits.with_63.Statement.{statement}
-use Rattle.bridge_cases.proofs.fits.with_63.Tie as tie
+use Rattle.bridge_cases.proofs.acts.fit_63.Statement.{statement}
+use Rattle.bridge_cases.proofs.acts.fit_63.Tie as tie
 
 abbrev Inv-loop : tie.InvT-loop
 Inv-loop b₀ i₀ b i = i ≤ 64
@@ -10,14 +10,17 @@ Inv-loop b₀ i₀ b i = i ≤ 64
 abbrev μ-loop : tie.MeasureT-loop
 μ-loop b₀ i₀ b i = 64 - i
 
-power-on-requires : tie.Need-power-on-requires Inv-loop μ-loop
-power-on-requires c κs = search needs
+slice-aggregate-text : tie.Need-slice-aggregate-text Inv-loop μ-loop
+slice-aggregate-text c = search needs
+
+text-requires : tie.Need-text-requires Inv-loop μ-loop
+text-requires c κs = search needs
 
 loop-holds : tie.Need-loop-holds Inv-loop μ-loop
 loop-holds c = search needs
 
-with-one-more-requires : tie.Need-with-one-more-requires Inv-loop μ-loop
-with-one-more-requires c κs = search needs
+fit-serial-requires : tie.Need-fit-serial-requires Inv-loop μ-loop
+fit-serial-requires c κs = search needs
 
 add-i : tie.Need-add-i Inv-loop μ-loop
 add-i c = search needs
@@ -31,15 +34,16 @@ loop-again c = search needs
 returns : tie.Need-returns Inv-loop μ-loop
 returns c = search needs
 
-pub with-63-spec : {M : Type 1} → statement M
-with-63-spec =
+pub fit-63-spec : {M : Type 1} → statement M
+fit-63-spec =
     tie.close
     (tie.spec
     Inv-loop
     μ-loop
-    power-on-requires
+    slice-aggregate-text
+    text-requires
     loop-holds
-    with-one-more-requires
+    fit-serial-requires
     add-i
     loop-less
     loop-again
