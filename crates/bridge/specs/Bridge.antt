@@ -76,9 +76,9 @@ readOf b = registerOf (b .pointer) b
 abbrev pub deviceReset : Bridge → Bridge
 deviceReset b = cleared (b .readout) (b .line)
 
--- The state with another pointer and another pending command.
-abbrev pub moved : Pointer → Pending → Bridge → Bridge
-moved p q b =
+-- The state with another pointer, another pending command and another line.
+abbrev pub moved : Pointer → Pending → Line → Bridge → Bridge
+moved p q l b =
     record {
       dir = b .dir;
       tsb = b .tsb;
@@ -89,7 +89,7 @@ moved p q b =
       pointer = p;
       readout = b .readout;
       pending = q;
-      line = b .line;
+      line = l;
     }
 
 -- E1h Set Read Pointer: F0h status, E1h read data, C3h configuration.
@@ -97,7 +97,7 @@ unfoldable pub pointerOf : ℕ → Pointer
 pointerOf x = cond (eqb x 0xF0) Status (cond (eqb x 0xE1) ReadData Configuration)
 
 abbrev pub setPointer : ℕ → Bridge → Bridge
-setPointer x b = moved (pointerOf x) (b .pending) b
+setPointer x b = moved (pointerOf x) (b .pending) (b .line) b
 
 -- D2h Write Configuration stores the low nibble, RST becomes 0, and the pointer goes to the configuration.
 abbrev pub configured : ℕ → Bridge → Bridge
@@ -117,7 +117,7 @@ configured x b =
 
 -- The five 1-Wire commands become pending, move the pointer to status and set 1WB at once.
 abbrev pub pended : Pending → Bridge → Bridge
-pended p b = moved Status p b
+pended p b = moved Status p (b .line) b
 
 -- 87h and 78h use bit 7 of their parameter.
 abbrev pub topBit : ℕ → Bool
@@ -251,19 +251,7 @@ afterTime b = finishedOf (b .pending) b
 
 -- The state with another line.
 abbrev pub onLine : Line → Bridge → Bridge
-onLine l b =
-    record {
-      dir = b .dir;
-      tsb = b .tsb;
-      sbr = b .sbr;
-      rst = b .rst;
-      ppd = b .ppd;
-      configuration = b .configuration;
-      pointer = b .pointer;
-      readout = b .readout;
-      pending = b .pending;
-      line = l;
-    }
+onLine l b = moved (b .pointer) (b .pending) l b
 
 -- Fitting touches the line alone.
 unfoldable pub afterFitting : List ℕ → Bridge → Bridge

@@ -41,10 +41,10 @@ impl Bridge {
         }
     }
 
-    fn moved(self, pointer: Pointer, pending: Pending) -> Bridge
-        ensures { λ r. ⌜ r ≡ movedTo pointer pending self ⌝ }
+    // Every other register stays.
+    pub(crate) fn moved(self, pointer: Pointer, pending: Pending, line: Line) -> Bridge
+        ensures { λ r. ⌜ r ≡ movedTo pointer pending line self ⌝ }
     {
-        let line = self.line;
         Bridge {
             dir: self.dir,
             tsb: self.tsb,
@@ -71,7 +71,8 @@ impl Bridge {
         ensures { λ r. ⌜ r ≡ setPointer x self ⌝ }
     {
         let pending = self.pending;
-        self.moved(pointed(x), pending)
+        let line = self.line;
+        self.moved(pointed(x), pending, line)
     }
 
     fn configured(mut self, x: u8) -> Bridge
@@ -80,13 +81,15 @@ impl Bridge {
         self.rst = false;
         self.configuration = x % 16;
         let pending = self.pending;
-        self.moved(Pointer::Configuration, pending)
+        let line = self.line;
+        self.moved(Pointer::Configuration, pending, line)
     }
 
     fn pended(self, pending: Pending) -> Bridge
         ensures { λ r. ⌜ r ≡ pendedOf pending self ⌝ }
     {
-        self.moved(Pointer::Status, pending)
+        let line = self.line;
+        self.moved(Pointer::Status, pending, line)
     }
 
     // Every code that is not named here is that of the triplet: an unknown one has been refused.

@@ -54,18 +54,7 @@ impl Bridge {
         ensures { λ r. ⌜ r ≡ finishedOn (self .dir) (self .tsb) (self .sbr) (self .ppd) (self .readout) line self ⌝ }
     {
         let pointer = self.pointer;
-        Bridge {
-            dir: self.dir,
-            tsb: self.tsb,
-            sbr: self.sbr,
-            rst: self.rst,
-            ppd: self.ppd,
-            configuration: self.configuration,
-            pointer,
-            readout: self.readout,
-            pending: Pending::Nothing,
-            line,
-        }
+        self.moved(pointer, Pending::Nothing, line)
     }
 
     pub(crate) fn finished_reset(mut self) -> Bridge
