@@ -97,14 +97,11 @@ impl Bridge {
         ensures { λ r. ⌜ r ≡ finishedTriplet direction self ⌝ }
     {
         let line = self.line;
-        let two = line.two_slots();
-        let last = two.line;
+        let two = line.two_levels();
         let bit = chosen(two.first, two.second, direction);
-        let third = last.slot(bit);
         self.dir = bit;
         self.tsb = two.second;
         self.sbr = two.first;
-        let after = third.line;
-        self.finished(after)
+        self.finished(line.slot_after_two(two.first, two.second, bit))
     }
 }

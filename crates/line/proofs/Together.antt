@@ -2,25 +2,27 @@
 --   fitted-onFitted, onFitted-onFitted     the probes after something was done to each; two things in a row
 --   took-rests, tookBits-rests             a probe that rests is not changed
 --   all-map, all-of-map                    a test of what a function makes of each
---   second-level, second-slot              the level of a second write-one slot, and the line after it
+--   second-level, second-slot              the level of a second write-one slot, and the line after it; slot-onFitted, one slot more
 --   quietFor-sends, quietFor-took          a quiet probe sends nothing, and a slot later it is quiet for the slots that are left
 --   slots-quiet                            on a line of quiet probes the levels are the bits that the bridge writes
 --   tookBits-next, slots-next              one slot more
 use mathlib.Core.Path.{_≡_, refl, sym, ap, ap₂, _∙_}
-use mathlib.Core.Bool.{Bool, true, false, cond, false≢true}
+use mathlib.Core.Bool.{Bool, true, false, cond, not, false≢true}
 use mathlib.Core.List.{List, [], _∷_, _++_, map, map-map, map-id}
 use Prim.Native.Nat.{ℕ, zero, suc, _+_, _-_, _*_, _/_, _%_, _<_, _≤_}
 use native.Mathlib.Omega.{arith}
 use lib.Dec.{eqb, leb}
 use lib.ListN.{length, take, drop, take-append-drop}
 use borrow.Author.Tests.{leb-true, le-leb, lt-leb, ne-eqb}
+use Rattle.identity.specs.Identity.{bitOf}
 use Rattle.probe.specs.declared.Condition.{Condition}
 use Rattle.probe.specs.declared.Condition.the-variants.{Deaf, Taking, Sending, Matching, Searching, Selected}
+use Rattle.probe.specs.declared.Slot.the-variants.{First, Third}
 use Rattle.probe.specs.declared.Probe.{Probe}
-use Rattle.probe.specs.Probe.{sends, sendsIn, took, tookIn, tookCode, tookMatching, agrees, digit, inCondition, withMark}
+use Rattle.probe.specs.Probe.{sends, sendsIn, sendsSearching, took, tookIn, tookCode, tookMatching, tookSearching, agrees, digit, inCondition, withMark}
 use Rattle.line.specs.declared.Line.{Line}
 use Rattle.line.specs.Line.{all, fitted, onFitted, level, slot, slots}
-use Rattle.line.specs.Together.{rests, restsIn, quietFor, quietIn, tookBits, sendsAfter, tookTwo}
+use Rattle.line.specs.Together.{rests, restsIn, quietFor, quietIn, tookBits, sendsAfter, sendsAfterTwo, tookTwo, tookThree}
 use Rattle.line.proofs.Front.{first-of, rest-of, both}
 
 -- ---- what is done to each probe
@@ -173,8 +175,21 @@ pub rests-sends : (b : Bool) (p : Probe) → rests p ≡ true → sendsAfter b p
 unfolding rests sends
 rests-sends b p e = ap sends (took-rests b p e) ∙ silent-in (p .id) (p .condition) e
 
-pub tookTwo-rests : (a b : Bool) (p : Probe) → rests p ≡ true → tookTwo a b p ≡ p
-tookTwo-rests a b p e = ap (took b) (took-rests a p e) ∙ took-rests b p e
+pub rests-sends-two : (a b : Bool) (p : Probe) → rests p ≡ true → sendsAfterTwo a b p ≡ true
+rests-sends-two a b p e = ap (λ (q : Probe). sends (took b q)) (took-rests a p e) ∙ rests-sends b p e
+
+pub tookThree-rests : (a b c : Bool) (p : Probe) → rests p ≡ true → tookThree a b c p ≡ p
+tookThree-rests a b c p e =
+    ap (λ (q : Probe). took c (took b q)) (took-rests a p e) ∙ ap (took c) (took-rests b p e) ∙ took-rests c p e
+
+-- a searching probe goes through its first two slots whatever the levels
+pub searching-sends : (k : ℕ) (b : Bool) (p : Probe) → p .condition ≡ Searching k First → sendsAfter b p ≡ not (bitOf (p .id) k)
+unfolding took tookIn tookSearching sends sendsIn sendsSearching
+searching-sends k b p e = ap (λ (c : Condition). sends (tookIn c b p)) e
+
+pub searching-two : (k : ℕ) (a b : Bool) (p : Probe) → p .condition ≡ Searching k First → tookTwo a b p ≡ inCondition p (Searching k Third)
+unfolding took tookIn tookSearching
+searching-two k a b p e = ap (λ (c : Condition). took b (tookIn c a p)) e
 
 pub second-level : (l : Line) → level true (slot true l) ≡ all (sendsAfter (level true l)) (fitted l)
 unfolding level slot
@@ -182,9 +197,19 @@ second-level l =
     let a = all sends (fitted l) in
     ap (all sends) (fitted-onFitted (took a) l) ∙ all-of-map sends (took a) (fitted l)
 
+-- two slots whose levels they really have
 pub second-slot : (l : Line) → slot true (slot true l) ≡ onFitted (tookTwo (level true l) (level true (slot true l))) l
 unfolding slot
 second-slot l = onFitted-onFitted (took (level true (onFitted (took (level true l)) l))) (took (level true l)) l
+
+-- one slot more, after something was done to each probe
+pub slot-onFitted : (w : Bool) (f : Probe → Probe) (l : Line)
+    → slot w (onFitted f l) ≡ onFitted (λ (p : Probe). took (cond w (all (λ (q : Probe). sends (f q)) (fitted l)) false) (f p)) l
+unfolding slot level
+slot-onFitted w f l =
+    onFitted-onFitted (took (cond w (all sends (fitted (onFitted f l))) false)) f l
+    ∙ ap (λ (b : Bool). onFitted (λ (p : Probe). took (cond w b false) (f p)) l)
+    (ap (all sends) (fitted-onFitted f l) ∙ all-of-map sends f (fitted l))
 
 -- ---- one slot more, for a loop that counts down
 

@@ -3,7 +3,8 @@
 --   quietFor n p     p sends nothing in the next n slots, whatever their levels
 --   tookBits n x p   p after n slots whose levels are the low n bits of x, low bit first
 --   sendsAfter a p   what p lets the line be in the slot after one of level a
---   tookTwo a b p    p after a slot of level a and one of level b
+--   tookTwo a b p    p after a slot of level a and one of level b; tookThree, after one more
+--   sendsAfterTwo    what p lets the line be in the slot after two
 use Prim.Native.Nat.{ℕ, zero, suc, _+_, _/_, _%_}
 use mathlib.Core.Bool.{Bool, true, false}
 use lib.Dec.{eqb, leb}
@@ -45,3 +46,9 @@ sendsAfter a p = sends (took a p)
 
 abbrev pub tookTwo : Bool → Bool → Probe → Probe
 tookTwo a b p = took b (took a p)
+
+abbrev pub sendsAfterTwo : Bool → Bool → Probe → Bool
+sendsAfterTwo a b p = sends (tookTwo a b p)
+
+abbrev pub tookThree : Bool → Bool → Bool → Probe → Probe
+tookThree a b c p = took c (tookTwo a b p)

@@ -6,12 +6,13 @@
 // Worked example: two probes that send 1 and 0 leave the line at 0 in a slot in which the bridge writes 1.
 use probe::Condition;
 use probe::Probe;
+use probe::Slot;
 ghost use mathlib.Core.Path.{_≡_};
 ghost use mathlib.Core.Bool.{true};
 ghost use Prim.Native.Nat.{_<_, _≤_};
 ghost use lib.ListN.{length, take, drop};
 ghost use Rattle.line.specs.Line.{all, fitted, bare, onFitted, level, slot, slots, resetAll, present, isFitted, fitNumber, withProbe, afterFit};
-ghost use Rattle.line.specs.Together.{rests, quietFor, tookBits, sendsAfter, tookTwo};
+ghost use Rattle.line.specs.Together.{rests, quietFor, tookBits, sendsAfter, sendsAfterTwo, tookTwo, tookThree};
 ghost use Rattle.probe.specs.Probe.{sends, took, reset};
 
 // The numbers that fitting returns besides those of the ID itself ("Numbers returned").
@@ -36,11 +37,10 @@ pub struct Slotted {
     pub line: Line,
 }
 
-// The levels of two slots and the line after them.
-pub struct TwoSlots {
+// The levels of two slots.
+pub struct TwoLevels {
     pub first: bool,
     pub second: bool,
-    pub line: Line,
 }
 
 // The number that a fitting returns and the line after it.
@@ -94,21 +94,57 @@ fn took_byte(before: Probe, byte: u8) -> Probe
     p
 }
 
-// What the probe lets the line be in the slot after one of this level.
+// What the probe lets the line be in the slot after one of this level. A searching probe sends the bit and then its complement.
 fn sends_after(p: Probe, level: bool) -> bool
     ensures { λ r. ⌜ r ≡ sendsAfter level p ⌝ }
+{
+    let condition = p.condition;
+    match condition {
+        Condition::Deaf => true,
+        Condition::Selected => true,
+        Condition::Searching { bit, slot } => match slot {
+            Slot::First => !identity::bit(p.id, bit),
+            _ => p.took(level).sends(),
+        },
+        _ => p.took(level).sends(),
+    }
+}
+
+// The probe after two slots. A searching probe that was in the first is in the third, whatever the levels.
+fn took_two(p: Probe, first: bool, second: bool) -> Probe
+    ensures { λ r. ⌜ r ≡ tookTwo first second p ⌝ }
+{
+    let condition = p.condition;
+    match condition {
+        Condition::Searching { bit, slot } => match slot {
+            Slot::First => Probe {
+                id: p.id,
+                marked: p.marked,
+                condition: Condition::Searching {
+                    bit,
+                    slot: Slot::Third,
+                },
+            },
+            _ => p.took(first).took(second),
+        },
+        _ => p.took(first).took(second),
+    }
+}
+
+fn sends_after_two(p: Probe, first: bool, second: bool) -> bool
+    ensures { λ r. ⌜ r ≡ sendsAfterTwo first second p ⌝ }
 {
     if rests(p) {
         true
     } else {
-        p.took(level).sends()
+        took_two(p, first, second).sends()
     }
 }
 
-fn took_two(p: Probe, first: bool, second: bool) -> Probe
-    ensures { λ r. ⌜ r ≡ tookTwo first second p ⌝ }
+fn took_three(p: Probe, first: bool, second: bool, third: bool) -> Probe
+    ensures { λ r. ⌜ r ≡ tookThree first second third p ⌝ }
 {
-    p.took(first).took(second)
+    took_two(p, first, second).took(third)
 }
 
 impl Line {
@@ -205,9 +241,25 @@ impl Line {
         true
     }
 
-    // Every probe takes two levels, one after the other.
-    fn taken_two(mut self, first: bool, second: bool) -> Line
-        ensures { λ r. ⌜ r ≡ onFitted (tookTwo first second) self ⌝ }
+    // No probe sends 0 in the slot after two of these levels.
+    fn all_send_after_two(self, first: bool, second: bool) -> bool
+        ensures { λ r. ⌜ r ≡ all (sendsAfterTwo first second) (fitted self) ⌝ }
+    {
+        let n = self.entries();
+        let mut i = 0;
+        while i < n {
+            let p = self.probes[i];
+            if !sends_after_two(p, first, second) {
+                return false;
+            }
+            i += 1;
+        }
+        true
+    }
+
+    // Every probe takes three levels, one after the other.
+    fn taken_three(mut self, first: bool, second: bool, third: bool) -> Line
+        ensures { λ r. ⌜ r ≡ onFitted (tookThree first second third) self ⌝ }
     {
         let n = self.entries();
         let mut i = 0;
@@ -216,22 +268,30 @@ impl Line {
             let p = self.probes[at];
             i += 1;
             if !rests(p) {
-                self.probes[at] = took_two(p, first, second);
+                self.probes[at] = took_three(p, first, second, third);
             }
         }
         self
     }
 
-    // Two slots in which the bridge writes 1. Both levels are found first, and then each probe takes them in one go.
-    pub fn two_slots(self) -> TwoSlots
-        ensures { λ r. ⌜ (r .first ≡ level true self) × (r .second ≡ level true (slot true self)) × (r .line ≡ slot true (slot true self)) ⌝ }
+    // The levels of two slots in which the bridge writes 1.
+    pub fn two_levels(self) -> TwoLevels
+        ensures { λ r. ⌜ (r .first ≡ level true self) × (r .second ≡ level true (slot true self)) ⌝ }
     {
         let first = self.all_send();
         let second = self.all_send_after(first);
-        TwoSlots {
-            first,
-            second,
-            line: self.taken_two(first, second),
+        TwoLevels { first, second }
+    }
+
+    // Two slots of these levels and one in which the bridge writes a bit; each probe takes the three in one go.
+    pub fn slot_after_two(self, first: bool, second: bool, write: bool) -> Line
+        ensures { λ r. ⌜ r ≡ slot write (onFitted (tookTwo first second) self) ⌝ }
+    {
+        if write {
+            let third = self.all_send_after_two(first, second);
+            self.taken_three(first, second, third)
+        } else {
+            self.taken_three(first, second, false)
         }
     }
 

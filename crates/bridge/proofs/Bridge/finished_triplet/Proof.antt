@@ -1,17 +1,18 @@
--- `Bridge::finished_triplet` meets its contract: two write-one slots, then the slot of the bit chosen.
+-- `Bridge::finished_triplet` meets its contract: two write-one slots by their levels, then the slot of the bit chosen.
 use Rattle.bridge.specs.Bridge.{finishedTriplet}
 use borrow.Author.Needs.{needs}
+use Rattle.line.proofs.Together.{second-slot}
 use Rattle.bridge.proofs.Bridge.finished_triplet.Statement.{statement}
 use Rattle.bridge.proofs.Bridge.finished_triplet.Tie as tie
 
-two-slots-requires : tie.Need-two-slots-requires
-two-slots-requires c κs = search needs
+two-levels-requires : tie.Need-two-levels-requires
+two-levels-requires c κs = search needs
 
 chosen-requires : tie.Need-chosen-requires
 chosen-requires c κs = search needs
 
-slot-requires : tie.Need-slot-requires
-slot-requires c κs = search needs
+slot-after-two-requires : tie.Need-slot-after-two-requires
+slot-after-two-requires c κs = search needs
 
 finished-requires : tie.Need-finished-requires
 finished-requires c κs = search needs
@@ -19,11 +20,12 @@ finished-requires c κs = search needs
 returns : tie.Need-returns
 unfolding finishedTriplet
 returns c =
-    let third = c .before .before in
-    let two = third .before .before .before .two-slots .ensures in
-    simp (c .finished .ensures, third .slot .ensures .1, third .before .chosen .ensures, two .0, two .1, two .2)
+    let third = c .before in
+    let two = third .before .before .two-levels .ensures in
+    let l = third .before .before .before .before .args .self .line in
+    simp (c .finished .ensures, third .slot-after-two .ensures, third .before .chosen .ensures, two .0, two .1, ← second-slot l)
 
 pub finished-triplet-spec : {M : Type 1} → statement M
 finished-triplet-spec =
     tie.close
-    (tie.spec two-slots-requires chosen-requires slot-requires finished-requires returns)
+    (tie.spec two-levels-requires chosen-requires slot-after-two-requires finished-requires returns)

@@ -1,20 +1,20 @@
--- `line::Line::taken_two` meets its contract: the entries gone through have taken both levels, those that rest too, whom they do not change.
+-- `line::Line::taken_three` meets its contract: the entries gone through have taken the three levels, those that rest too, whom they do not change.
 use mathlib.Core.Path.{_≡_, refl, sym, _∙_, ap}
 use Prim.Native.Nat.{ℕ, _≤_, _-_}
 use native.Mathlib.Omega.{arith}
 use borrow.Author.Needs.{needs}
 use borrow.Author.Tests.{not-false}
-use Rattle.line.specs.Together.{tookTwo}
+use Rattle.line.specs.Together.{tookThree}
 use Rattle.line.proofs.Steps.{after, after-next, after-kept, after-all}
-use Rattle.line.proofs.Together.{tookTwo-rests}
-use Rattle.line.proofs.Line.taken_two.Statement.{statement}
-use Rattle.line.proofs.Line.taken_two.Tie as tie
+use Rattle.line.proofs.Together.{tookThree-rests}
+use Rattle.line.proofs.Line.taken_three.Statement.{statement}
+use Rattle.line.proofs.Line.taken_three.Tie as tie
 
 abbrev Inv-loop : tie.InvT-loop
-Inv-loop first second self₀ n i₀ self i = (i ≤ n) × (self ≡ after (tookTwo first second) i self₀)
+Inv-loop first second third self₀ n i₀ self i = (i ≤ n) × (self ≡ after (tookThree first second third) i self₀)
 
 abbrev μ-loop : tie.MeasureT-loop
-μ-loop first second self₀ n i₀ self i = n - i
+μ-loop first second third self₀ n i₀ self i = n - i
 
 entries-requires : tie.Need-entries-requires Inv-loop μ-loop
 entries-requires c κs = search needs
@@ -34,11 +34,11 @@ add-i c = omega arith
 rests-requires : tie.Need-rests-requires Inv-loop μ-loop
 rests-requires c κs = search needs
 
-took-two-requires : tie.Need-took-two-requires Inv-loop μ-loop
-took-two-requires c κs = search needs
+took-three-requires : tie.Need-took-three-requires Inv-loop μ-loop
+took-three-requires c κs = search needs
 
-mul-t17 : tie.Need-mul-t17 Inv-loop μ-loop
-mul-t17 c = omega arith
+mul-t18 : tie.Need-mul-t18 Inv-loop μ-loop
+mul-t18 c = omega arith
 
 element-set-from-self : tie.Need-element-set-from-self Inv-loop μ-loop
 element-set-from-self c = omega arith
@@ -51,7 +51,7 @@ loop-again c =
     let l = c .before .before .before .before .before .loop in
     let a = c .before .before .before .before .before .before .before .args in (
       omega arith,
-      after-next (tookTwo (a .first) (a .second)) (a .t1) (l .self) (l .i) _ (c .took-two .result) (omega arith) (l .inv .1) (c .took-two .ensures),
+      after-next (tookThree (a .first) (a .second) (a .third)) (a .t1) (l .self) (l .i) _ (c .took-three .result) (omega arith) (l .inv .1) (c .took-three .ensures),
     )
 
 loop-less-2 : tie.Need-loop-less-2 Inv-loop μ-loop
@@ -63,7 +63,7 @@ loop-again-2 c =
     let a = c .before .before .before .before .before .before .args in
     let resting = sym (c .before .rests .ensures) ∙ not-false _ (c .if1 .left) in (
       omega arith,
-      after-kept (tookTwo (a .first) (a .second)) (a .t1) (l .self) (l .i) _ (omega arith) (l .inv .1) (tookTwo-rests (a .first) (a .second) _ resting),
+      after-kept (tookThree (a .first) (a .second) (a .third)) (a .t1) (l .self) (l .i) _ (omega arith) (l .inv .1) (tookThree-rests (a .first) (a .second) (a .third) _ resting),
     )
 
 returns : tie.Need-returns Inv-loop μ-loop
@@ -72,11 +72,11 @@ returns c =
     let e = c .before .before .entries in
     let a = c .before .before .before .args in
     let stop : l .i ≡ e .result = omega arith in
-    l .inv .1 ∙ ap (λ (k : ℕ). after (tookTwo (a .first) (a .second)) k (a .t1)) stop
-    ∙ after-all (tookTwo (a .first) (a .second)) (a .t1) (e .result) (e .ensures .2) (e .ensures .3)
+    l .inv .1 ∙ ap (λ (k : ℕ). after (tookThree (a .first) (a .second) (a .third)) k (a .t1)) stop
+    ∙ after-all (tookThree (a .first) (a .second) (a .third)) (a .t1) (e .result) (e .ensures .2) (e .ensures .3)
 
-pub taken-two-spec : {M : Type 1} → statement M
-taken-two-spec =
+pub taken-three-spec : {M : Type 1} → statement M
+taken-three-spec =
     tie.close
     (tie.spec
     Inv-loop
@@ -87,8 +87,8 @@ taken-two-spec =
     element-copy-out-p
     add-i
     rests-requires
-    took-two-requires
-    mul-t17
+    took-three-requires
+    mul-t18
     element-set-from-self
     loop-less
     loop-again
