@@ -3,6 +3,7 @@
 --   took-rests, tookBits-rests             a probe that rests is not changed
 --   all-map, all-of-map                    a test of what a function makes of each
 --   second-level, second-slot              the level of a second write-one slot, and the line after it; slot-onFitted, one slot more
+--   sending-last, sending-next             a probe that sends its ID goes on, or is selected
 --   quietFor-sends, quietFor-took          a quiet probe sends nothing, and a slot later it is quiet for the slots that are left
 --   slots-quiet                            on a line of quiet probes the levels are the bits that the bridge writes
 --   tookBits-next, slots-next              one slot more
@@ -19,7 +20,7 @@ use Rattle.probe.specs.declared.Condition.{Condition}
 use Rattle.probe.specs.declared.Condition.the-variants.{Deaf, Taking, Sending, Matching, Searching, Selected}
 use Rattle.probe.specs.declared.Slot.the-variants.{First, Third}
 use Rattle.probe.specs.declared.Probe.{Probe}
-use Rattle.probe.specs.Probe.{sends, sendsIn, sendsSearching, took, tookIn, tookCode, tookMatching, tookSearching, agrees, digit, inCondition, withMark}
+use Rattle.probe.specs.Probe.{sends, sendsIn, sendsSearching, took, tookIn, tookCode, tookSending, tookMatching, tookSearching, agrees, digit, inCondition, withMark}
 use Rattle.line.specs.declared.Line.{Line}
 use Rattle.line.specs.Line.{all, fitted, onFitted, level, slot, slots}
 use Rattle.line.specs.Together.{rests, restsIn, quietFor, quietIn, tookBits, sendsAfter, sendsAfterTwo, tookTwo, tookThree}
@@ -97,6 +98,18 @@ pub tookBits-rests : (n x : ℕ) (p : Probe) → rests p ≡ true → tookBits n
 unfolding tookBits
 tookBits-rests zero x p e = refl
 tookBits-rests (suc n) x p e = ap (tookBits n (x / 2)) (took-rests (eqb (x % 2) 1) p e) ∙ tookBits-rests n (x / 2) p e
+
+-- ---- a probe that sends its ID goes on whatever the level
+
+pub sending-last : (k : ℕ) (b : Bool) (p : Probe) → p .condition ≡ Sending k → 63 ≤ k → took b p ≡ inCondition p Selected
+unfolding took tookIn tookSending
+sending-last k b p e h =
+    ap (λ (c : Condition). tookIn c b p) e ∙ ap (λ (t : Bool). inCondition p (cond t Selected (Sending (k + 1)))) (le-leb 63 k h)
+
+pub sending-next : (k : ℕ) (b : Bool) (p : Probe) → p .condition ≡ Sending k → k < 63 → took b p ≡ inCondition p (Sending (k + 1))
+unfolding took tookIn tookSending
+sending-next k b p e h =
+    ap (λ (c : Condition). tookIn c b p) e ∙ ap (λ (t : Bool). inCondition p (cond t Selected (Sending (k + 1)))) (lt-leb 63 k h)
 
 -- ---- a quiet probe
 

@@ -79,6 +79,31 @@ fn quiet(p: Probe) -> bool
     }
 }
 
+// The probe after a slot of this level. One that sends its ID goes on to the next bit, whatever the level.
+fn took_one(p: Probe, level: bool) -> Probe
+    ensures { λ r. ⌜ r ≡ took level p ⌝ }
+{
+    let condition = p.condition;
+    match condition {
+        Condition::Sending { bit } => {
+            if 63 <= bit {
+                Probe {
+                    id: p.id,
+                    marked: p.marked,
+                    condition: Condition::Selected,
+                }
+            } else {
+                Probe {
+                    id: p.id,
+                    marked: p.marked,
+                    condition: Condition::Sending { bit: bit + 1 },
+                }
+            }
+        }
+        _ => p.took(level),
+    }
+}
+
 // The probe after eight slots whose levels are the bits of a byte.
 fn took_byte(before: Probe, byte: u8) -> Probe
     ensures { λ r. ⌜ r ≡ tookBits 8 byte before ⌝ }
@@ -208,7 +233,7 @@ impl Line {
             let p = self.probes[at];
             i += 1;
             if !rests(p) {
-                self.probes[at] = p.took(level);
+                self.probes[at] = took_one(p, level);
             }
         }
         self
