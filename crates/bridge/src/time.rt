@@ -29,9 +29,9 @@ fn read_slots(start: Line) -> Levels
     let mut byte: u8 = 0;
     let mut left: u8 = 8;
     while 0 < left {
-        let slotted = line.slot(true);
-        line = slotted.line;
-        byte = with_level(byte, slotted.level);
+        let level = line.level(true);
+        line = line.taken(level);
+        byte = with_level(byte, level);
         left -= 1;
     }
     Levels { byte, line }

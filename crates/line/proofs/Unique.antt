@@ -9,6 +9,8 @@ use Rattle.line.specs.declared.Fitting.{Fitting}
 use Rattle.checksum.proofs.Unique.{OneAnswer}
 use Rattle.line.proofs.Line.bare.Reads as bare
 use Rattle.line.proofs.Line.present.Reads as present
+use Rattle.line.proofs.Line.level.Reads as level
+use Rattle.line.proofs.Line.taken.Reads as taken
 use Rattle.line.proofs.Line.slot.Reads as slot
 use Rattle.line.proofs.Line.slots.Reads as slots
 use Rattle.line.proofs.Line.two_levels.Reads as two_levels
@@ -21,6 +23,12 @@ one-bare κ a x y s t p q = p ∙ sym q
 
 pub one-present : OneAnswer present.Post
 one-present κ a x y s t p q = p ∙ sym q
+
+pub one-level : OneAnswer level.Post
+one-level κ a x y s t p q = p ∙ sym q
+
+pub one-taken : OneAnswer taken.Post
+one-taken κ a x y s t p q = p ∙ sym q
 
 pub one-slots : OneAnswer slots.Post
 one-slots κ a x y s t p q = p ∙ sym q

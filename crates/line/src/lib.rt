@@ -216,14 +216,15 @@ impl Line {
         true
     }
 
-    fn level(self, write: bool) -> bool
+    // What the wire carries in a slot in which the bridge writes a bit.
+    pub fn level(self, write: bool) -> bool
         ensures { λ r. ⌜ r ≡ level write self ⌝ }
     {
         if write { self.all_send() } else { false }
     }
 
     // Every probe takes the level. One that no slot changes is left alone.
-    fn taken(mut self, level: bool) -> Line
+    pub fn taken(mut self, level: bool) -> Line
         ensures { λ r. ⌜ r ≡ onFitted (took level) self ⌝ }
     {
         let n = self.entries();

@@ -3,9 +3,9 @@ use native.Mathlib.Omega.{arith}
 use mathlib.Core.Bool.{Bool, true}
 use mathlib.Core.Path.{_≡_, refl, sym, ap, ap₂, _∙_}
 use Prim.Native.Nat.{ℕ, _+_, _*_, _/_, _-_}
-use Rattle.probe.specs.Probe.{digit}
+use Rattle.probe.specs.Probe.{digit, took}
 use Rattle.line.specs.declared.Line.{Line}
-use Rattle.line.specs.Line.{level, slot}
+use Rattle.line.specs.Line.{level, slot, onFitted}
 use Rattle.bridge.specs.Bridge.{slotsOfOne}
 use Rattle.bridge.proofs.Slots.{slotsOfOne-next, gathered, gathered-next, gathered-levels}
 use Rattle.bridge.proofs.time.read_slots.Statement.{statement}
@@ -21,8 +21,11 @@ abbrev μ-loop : tie.MeasureT-loop
 loop-holds : tie.Need-loop-holds Inv-loop μ-loop
 loop-holds c = (refl, refl)
 
-slot-requires : tie.Need-slot-requires Inv-loop μ-loop
-slot-requires c κs = tt
+level-requires : tie.Need-level-requires Inv-loop μ-loop
+level-requires c κs = tt
+
+taken-requires : tie.Need-taken-requires Inv-loop μ-loop
+taken-requires c κs = tt
 
 with-level-requires : tie.Need-with-level-requires Inv-loop μ-loop
 with-level-requires c κs = tt
@@ -34,13 +37,16 @@ loop-less : tie.Need-loop-less Inv-loop μ-loop
 loop-less c = omega arith
 
 loop-again : tie.Need-loop-again Inv-loop μ-loop
+unfolding slot
 loop-again c =
     let l = c .before .before .before .before .loop in
-    let went = c .before .before .slot .ensures in
+    let at = c .before .before .level .ensures in
+    let went : c .before .taken .result ≡ slot true (l .line) =
+    c .before .taken .ensures ∙ ap (λ (t : Bool). onFitted (took t) (l .line)) at in
     let went-in : c .with-level .result ≡ l .byte / 2 + digit (level true (l .line)) * 128 =
-    c .with-level .ensures ∙ ap (λ (t : Bool). l .byte / 2 + digit t * 128) (went .0) in (
-      ap₂ (gathered (l .left - 1)) went-in (went .1) ∙ gathered-next (l .left) (l .byte) (l .line) (omega arith) ∙ l .inv .0,
-      ap (slotsOfOne (l .left - 1)) (went .1) ∙ slotsOfOne-next (l .left) (l .line) (omega arith) ∙ l .inv .1,
+    c .with-level .ensures ∙ ap (λ (t : Bool). l .byte / 2 + digit t * 128) at in (
+      ap₂ (gathered (l .left - 1)) went-in went ∙ gathered-next (l .left) (l .byte) (l .line) (omega arith) ∙ l .inv .0,
+      ap (slotsOfOne (l .left - 1)) went ∙ slotsOfOne-next (l .left) (l .line) (omega arith) ∙ l .inv .1,
     )
 
 returns : tie.Need-returns Inv-loop μ-loop
@@ -59,7 +65,8 @@ read-slots-spec =
     Inv-loop
     μ-loop
     loop-holds
-    slot-requires
+    level-requires
+    taken-requires
     with-level-requires
     sub-left
     loop-less
