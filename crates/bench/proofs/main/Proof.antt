@@ -1,0 +1,56 @@
+-- `bench::main` meets its contract: the count that the transcript gives lies within its buffer.
+use mathlib.Core.Path.{sym, ap}
+use Prim.Native.Nat.{_≤_}
+use native.Mathlib.Omega.{arith}
+use lib.ListN.{length, length-append}
+use lib.Seq.{length-take-le}
+use borrow.Author.Needs.{needs}
+use Rattle.bench.proofs.main.Statement.{statement}
+use Rattle.bench.proofs.main.Tie as tie
+
+-- what is printed lies at the front of the buffer
+front : (c : tie.After-transcript) → c .transcript .result ≤ length (c .transcript .last .1 .0)
+front c = omega (arith, c .transcript .ensures .0, simp length-append at (ap length (c .transcript .ensures .1)))
+
+slice-aggregate-read-full : tie.Need-slice-aggregate-read-full
+slice-aggregate-read-full c = search needs
+
+read-full-requires : tie.Need-read-full-requires
+read-full-requires c κs = search needs
+
+array-share-prefix-script : tie.Need-array-share-prefix-script
+array-share-prefix-script c = search needs
+
+slice-aggregate-transcript : tie.Need-slice-aggregate-transcript
+slice-aggregate-transcript c = search needs
+
+transcript-requires : tie.Need-transcript-requires
+transcript-requires c κs = search needs
+
+array-share-prefix-out : tie.Need-array-share-prefix-out
+array-share-prefix-out c = front c
+
+slice-aggregate-write-all : tie.Need-slice-aggregate-write-all
+slice-aggregate-write-all c =
+    let p = c .before .transcript in
+    sym (length-take-le (p .result) (p .last .1 .0) (front (c .before)))
+
+write-all-requires : tie.Need-write-all-requires
+write-all-requires c κs = search needs
+
+returns : tie.Need-returns
+returns c = search needs
+
+pub main-spec : {M : Type 1} → statement M
+main-spec =
+    tie.close
+    (tie.spec
+    slice-aggregate-read-full
+    read-full-requires
+    array-share-prefix-script
+    slice-aggregate-transcript
+    transcript-requires
+    array-share-prefix-out
+    slice-aggregate-write-all
+    write-all-requires
+    returns)

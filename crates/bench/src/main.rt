@@ -1,0 +1,13 @@
+// The bench program (document 01, "The bench script"): a script on standard input, a line for each event on standard output.
+//
+// One byte more than the longest script is read, so that a longer one is seen to be too long.
+use libc::STDIN_FILENO;
+use libc::STDOUT_FILENO;
+
+fn main() {
+    let mut script = [0u8; 4097];
+    let n = io::read_full(STDIN_FILENO, &mut script);
+    let mut out = [0u8; 180136];
+    let len = transcript::transcript(&script[..n], &mut out);
+    io::write_all(STDOUT_FILENO, &out[..len]);
+}

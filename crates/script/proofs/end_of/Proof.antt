@@ -1,0 +1,69 @@
+-- `script::end_of` meets its contract: from each event's place the events left end where all of them do.
+use mathlib.Core.Path.{_≡_, refl, sym, ap, _∙_}
+use Prim.Native.Nat.{ℕ, _+_, _-_, _*_, _/_, _%_, _≤_, _<_}
+use native.Mathlib.Omega.{arith}
+use Rattle.script.specs.Script.{endOf, sizeFor, sizeAt}
+use Rattle.script.proofs.Events.{sizeAt-head, sizeFor-high, endOf-next, endOf-none}
+use Rattle.script.proofs.end_of.Statement.{statement}
+use Rattle.script.proofs.end_of.Tie as tie
+
+abbrev Inv-loop : tie.InvT-loop
+Inv-loop script left₀ place₀ left place = (left < 65536) × (place + 66 * left ≤ 16 + 66 * 65536) × (endOf script left place ≡ endOf script left₀ 16)
+
+abbrev μ-loop : tie.MeasureT-loop
+μ-loop script left₀ place₀ left place = left
+
+count-of-requires : tie.Need-count-of-requires Inv-loop μ-loop
+count-of-requires c κs = tt
+
+loop-holds : tie.Need-loop-holds Inv-loop μ-loop
+loop-holds c = (omega (arith, c .count-of .ok), omega (arith, c .count-of .ok), refl)
+
+head-at-requires : tie.Need-head-at-requires Inv-loop μ-loop
+head-at-requires c κs = tt
+
+size-of-requires : tie.Need-size-of-requires Inv-loop μ-loop
+size-of-requires c κs = tt
+
+add-place : tie.Need-add-place Inv-loop μ-loop
+add-place c =
+    let l = c .before .before .before .loop in
+    omega (arith, sizeFor-high (c .before .head-at .result / 4) (c .before .head-at .result % 4) (omega arith), c .size-of .ensures)
+
+sub-left : tie.Need-sub-left Inv-loop μ-loop
+sub-left c = omega arith
+
+loop-less : tie.Need-loop-less Inv-loop μ-loop
+loop-less c = omega arith
+
+loop-again : tie.Need-loop-again Inv-loop μ-loop
+loop-again c =
+    let l = c .before .before .before .loop in
+    let s = c .before .before .before .before .before .before .args .script .now in
+    let size : c .size-of .result ≡ sizeAt s (l .place) = c .size-of .ensures ∙ ap (λ (h : ℕ). sizeFor (h / 4) (h % 4)) (c .before .head-at .ensures) ∙ sizeAt-head s (l .place) in (
+      omega arith,
+      omega (arith, sizeFor-high (c .before .head-at .result / 4) (c .before .head-at .result % 4) (omega arith), c .size-of .ensures),
+      ap (λ (n : ℕ). endOf s (l .left - 1) (l .place + n)) size ∙ endOf-next s (l .left) (l .place) (omega arith) ∙ l .inv .2,
+    )
+
+returns : tie.Need-returns Inv-loop μ-loop
+returns c =
+    let l = c .before .loop in
+    let s = c .before .before .before .before .args .script .now in
+    sym (endOf-none s (l .left) (l .place) (omega arith)) ∙ l .inv .2 ∙ ap (λ (n : ℕ). endOf s n 16) (c .before .before .count-of .ensures)
+
+pub end-of-spec : {M : Type 1} → statement M
+end-of-spec =
+    tie.close
+    (tie.spec
+    Inv-loop
+    μ-loop
+    count-of-requires
+    loop-holds
+    head-at-requires
+    size-of-requires
+    add-place
+    sub-left
+    loop-less
+    loop-again
+    returns)

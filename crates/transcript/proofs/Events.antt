@@ -1,0 +1,151 @@
+-- The run of a script, event by event.
+--   step-write, -read, -wait, -fit       what an event of each kind gives
+--   lineOf-text                          its line
+--   transcriptOf-run, -refusal           what is printed for a script and for any other bytes
+--   writeNumber-lt, fitNumber-lt         the numbers printed have one digit
+--   Runs                                 the lines left to print bring the buffer to what is promised
+--   runs-first, runs-next, runs-last     where no event has run, one event more, and where all have
+use mathlib.Core.Path.{_≡_, refl, sym, ap, ap₂, _∙_}
+use mathlib.Core.Bool.{Bool, true, false, cond}
+use mathlib.Core.List.{List, [], _∷_, _++_}
+use Prim.Native.Nat.{ℕ, zero, suc, _+_, _-_, _*_, _<_, _≤_}
+use native.Mathlib.Numerals.{add-one}
+use native.Mathlib.Omega.{arith}
+use lib.Dec.{eqb, leb}
+use lib.ListN.{length, getD, length-append}
+use lib.Seq.{sets, length-sets}
+use borrow.Author.Tests.{ne-eqb}
+use Rattle.identity.specs.Identity.{numberOf, refusalOf, crcRight, familyOf}
+use Rattle.line.specs.declared.Line.{Line}
+use Rattle.line.specs.Line.{isFitted, placeNumber, fitNumber}
+use Rattle.bridge.specs.declared.Bridge.{Bridge}
+use Rattle.bridge.specs.Bridge.{powerOn, readOf, afterWrite, afterTime, afterFitting, busy, bytesOf, takenWhileBusy, goodParameter, writeNumber}
+use Rattle.script.specs.Script.{bytesAt, countOf, isScript, kindAt, lengthAt, sizeAt}
+use Rattle.transcript.specs.Text.{Put, headOf, lineText}
+use Rattle.transcript.specs.Transcript.{decimal, hexadecimal, Step, writeStep, readStep, waitStep, fitStep, stepAt, lineOf, linesFrom, transcriptOf}
+use Rattle.transcript.proofs.Buffer.{sets-append}
+
+-- ---- events
+
+module _ (s : List ℕ) (k : ℕ) (b : Bridge) where
+  pub step-write : (n x : ℕ) (after : Bridge) → kindAt s k ≡ 0 → n ≡ lengthAt s k → x ≡ writeNumber (bytesAt s (k + 4) n) b → after ≡ afterWrite (bytesAt s (k + 4) n) b → stepAt s k b ≡ record { letter = 0x57; value = decimal x; bridge = after }
+  unfolding stepAt writeStep
+  step-write n x after kind len number state =
+      simp kind (ap (λ (m : ℕ). writeStep (bytesAt s (k + 4) m) b) (sym len) ∙ ap₂ (λ (y : ℕ) (z : Bridge). record { letter = 0x57; value = decimal y; bridge = z }) (sym number) (sym state))
+
+  pub step-read : (x : ℕ) → kindAt s k ≡ 1 → x ≡ readOf b → stepAt s k b ≡ record { letter = 0x52; value = hexadecimal x; bridge = b }
+  unfolding stepAt readStep
+  step-read x kind byte = simp kind (ap (λ (y : ℕ). record { letter = 0x52; value = hexadecimal y; bridge = b }) (sym byte))
+
+  pub step-wait : (after : Bridge) → kindAt s k ≡ 2 → after ≡ afterTime b → stepAt s k b ≡ record { letter = 0x54; value = decimal 0; bridge = after }
+  unfolding stepAt waitStep
+  step-wait after kind state = simp kind (ap (λ (z : Bridge). record { letter = 0x54; value = decimal 0; bridge = z }) (sym state))
+
+  pub step-fit : (x : ℕ) (after : Bridge) → (kindAt s k ≡ 0 → ⊥) → (kindAt s k ≡ 1 → ⊥) → (kindAt s k ≡ 2 → ⊥) → x ≡ fitNumber (bytesAt s (k + 2) 8) (b .line) → after ≡ afterFitting (bytesAt s (k + 2) 8) b → stepAt s k b ≡ record { letter = 0x46; value = decimal x; bridge = after }
+  unfolding stepAt fitStep
+  step-fit x after w r t number state =
+      simp (ne-eqb (kindAt s k) 0 w, ne-eqb (kindAt s k) 1 r, ne-eqb (kindAt s k) 2 t)
+      (ap₂ (λ (y : ℕ) (z : Bridge). record { letter = 0x46; value = decimal y; bridge = z }) (sym number) (sym state))
+
+pub lineOf-text : (i : ℕ) (t : Step) → lineText i (t .letter) (t .value) ≡ lineOf i t
+unfolding lineOf lineText headOf
+lineOf-text i t = refl
+
+-- ---- the whole
+
+pub transcriptOf-run : (s : List ℕ) → isScript s ≡ true → linesFrom s (countOf s) 1 16 powerOn ≡ transcriptOf s
+unfolding transcriptOf
+transcriptOf-run s h = simp h
+
+pub transcriptOf-refusal : (s : List ℕ) → isScript s ≡ false → (0x31 ∷ 0x35 ∷ 0x0A ∷ []) ≡ transcriptOf s
+unfolding transcriptOf
+transcriptOf-refusal s h = simp h
+
+-- ---- numbers of one digit
+
+cond-lt : (t : Bool) (a b m : ℕ) → a < m → b < m → cond t a b < m
+cond-lt true a b m h l = h
+cond-lt false a b m h l = l
+
+pub writeNumber-lt : (x : List ℕ) (b : Bridge) → writeNumber x b < 10
+unfolding writeNumber
+writeNumber-lt [] b = omega arith
+writeNumber-lt (c ∷ ps) b =
+    cond-lt (eqb (bytesOf c) 0) 5 _ 10 (omega arith)
+    (cond-lt (cond (busy b) (cond (takenWhileBusy c) false true) false) 6 _ 10 (omega arith)
+    (cond-lt (eqb (length (c ∷ ps)) (bytesOf c)) _ 7 10 (cond-lt (goodParameter c (getD ps 0 0)) 0 8 10 (omega arith) (omega arith)) (omega arith)))
+
+refusalOf-lt : (x : List ℕ) → refusalOf x < 10
+unfolding refusalOf
+refusalOf-lt x = cond-lt (crcRight x) _ 2 10 (cond-lt (eqb (familyOf x) 0) 3 0 10 (omega arith) (omega arith)) (omega arith)
+
+pub fitNumber-lt : (x : List ℕ) (l : Line) → fitNumber x l < 10
+unfolding fitNumber placeNumber
+fitNumber-lt x l =
+    cond-lt (eqb (refusalOf x) 0) _ (refusalOf x) 10
+    (cond-lt (isFitted (numberOf x) l) 4 _ 10 (omega arith) (cond-lt (leb 64 (l .count)) 1 0 10 (omega arith) (omega arith)))
+    (refusalOf-lt x)
+
+-- ---- the run
+
+linesFrom-next : (s : List ℕ) (n i k : ℕ) (b : Bridge) → 0 < n → linesFrom s n i k b ≡ lineOf i (stepAt s k b) ++ linesFrom s (n - 1) (i + 1) (k + sizeAt s k) (stepAt s k b .bridge)
+unfolding linesFrom
+linesFrom-next s zero i k b h = absurd (omega arith)
+linesFrom-next s (suc n) i k b h =
+    let one : n ≡ suc n - 1 = omega arith in
+    ap₂ (λ (m j : ℕ). lineOf i (stepAt s k b) ++ linesFrom s m j (k + sizeAt s k) (stepAt s k b .bridge)) one (sym (add-one i))
+
+-- of n events so many are done; the next one stands at the place k, and its line at the place a of the buffer e, which was d
+pub record Runs (s : List ℕ) (n : ℕ) (d e : List ℕ) (b : Bridge) (done k a : ℕ) : Type 0 where
+  pub within : done ≤ n
+  pub most : n ≤ 16376
+  pub near : k ≤ 16 + 66 * done
+  pub room : a ≤ 11 * done
+  pub kept : length e ≡ length d
+  pub content : sets e a (linesFrom s (n - done) (done + 1) k b) ≡ sets d 0 (linesFrom s n 1 16 powerOn)
+  pub end : a + length (linesFrom s (n - done) (done + 1) k b) ≡ length (linesFrom s n 1 16 powerOn)
+
+pub runs-first : (s : List ℕ) (n : ℕ) (d : List ℕ) (b : Bridge) → n ≤ 16376 → b ≡ powerOn → Runs s n d d b 0 16 0
+runs-first s n d b h e =
+    let all : linesFrom s (n - 0) 1 16 b ≡ linesFrom s n 1 16 powerOn = ap₂ (λ (m : ℕ) (x : Bridge). linesFrom s m 1 16 x) (omega arith) e in
+    record {
+      within = omega arith;
+      most = h;
+      near = omega arith;
+      room = omega arith;
+      kept = refl;
+      content = ap (sets d 0) all;
+      end = omega (arith, ap length all);
+    }
+
+module _ (s : List ℕ) (n : ℕ) (d e : List ℕ) (b : Bridge) (done k a : ℕ) (runs : Runs s n d e b done k a) where
+  pub runs-next : (t : Step) (f : List ℕ) (size r : ℕ) → done < n → stepAt s k b ≡ t → size ≡ sizeAt s k → size ≤ 66 → r ≤ a + 11 → Put e f a r (lineText (done + 1) (t .letter) (t .value)) → Runs s n d f (t .bridge) (done + 1) (k + size) r
+  runs-next t f size r more step sized small short put =
+      let rest = linesFrom s (n - (done + 1)) (done + 1 + 1) (k + size) (t .bridge) in
+      let left : n - done - 1 ≡ n - (done + 1) = omega arith in
+      let same : linesFrom s (n - done) (done + 1) k b ≡ lineText (done + 1) (t .letter) (t .value) ++ rest =
+      linesFrom-next s (n - done) (done + 1) k b (omega arith)
+      ∙ ap (λ (x : Step). lineOf (done + 1) x ++ linesFrom s (n - done - 1) (done + 1 + 1) (k + sizeAt s k) (x .bridge)) step
+      ∙ ap₂ (λ (m z : ℕ). lineOf (done + 1) t ++ linesFrom s m (done + 1 + 1) (k + z) (t .bridge)) left (sym sized)
+      ∙ ap (λ (x : List ℕ). x ++ rest) (sym (lineOf-text (done + 1) t)) in
+      record {
+        within = omega arith;
+        most = runs .most;
+        near = omega (arith, runs .near);
+        room = omega (arith, runs .room);
+        kept = ap length (put .content) ∙ length-sets e a (lineText (done + 1) (t .letter) (t .value)) ∙ runs .kept;
+        content =
+            ap₂ (λ (x : List ℕ) (j : ℕ). sets x j rest) (put .content) (put .end)
+            ∙ sym (sets-append e a (lineText (done + 1) (t .letter) (t .value)) rest) ∙ ap (sets e a) (sym same) ∙ runs .content;
+        end = omega (arith, put .end, runs .end, ap length same, length-append (lineText (done + 1) (t .letter) (t .value)) rest);
+      }
+
+  pub runs-last : n ≤ done → Put d e 0 a (linesFrom s n 1 16 powerOn)
+  unfolding linesFrom
+  runs-last h =
+      let left : n - done ≡ 0 = omega arith in
+      let none : linesFrom s (n - done) (done + 1) k b ≡ [] = ap (λ (m : ℕ). linesFrom s m (done + 1) k b) left in
+      record {
+        content = sym (ap (sets e a) none) ∙ runs .content;
+        end = omega (arith, runs .end, ap length none);
+      }

@@ -1,0 +1,111 @@
+// What the bench prints for a script (document 01, "The bench script").
+//
+// The events of a well-formed script run one after the other through the bridge, from power-on with no probe, and each prints a line:
+// its number from 1, its letter, and the byte read or the number of the answer. Of a malformed script nothing runs, and it prints 15.
+//
+// Worked example: for 00 05 1F 04 6D 24 the lines are 1 W 0, 2 R 18, 3 W 0, 4 T 0 and 5 R 18.
+mod text;
+
+use bridge::Answer;
+use bridge::Bridge;
+ghost use mathlib.Core.List.{_++_};
+ghost use mathlib.Core.Path.{_≡_};
+ghost use mathlib.Core.Bool.{true};
+ghost use Prim.Native.Nat.{_+_, _≤_};
+ghost use lib.ListN.{length, take, drop};
+ghost use Rattle.line.specs.Line.{fitNumber};
+ghost use Rattle.bridge.specs.Bridge.{powerOn, writeNumber, afterWrite, afterFitting};
+ghost use Rattle.script.specs.Script.{bytesAt, countOf, isScript};
+ghost use Rattle.transcript.specs.Text.{Put};
+ghost use Rattle.transcript.specs.Transcript.{linesFrom, transcriptOf};
+
+// The most bytes that are printed: 16,376 events of two bits fill the longest script, and no line is longer than 11 bytes.
+pub const MOST: usize = 180136;
+
+// The n bytes from a place of the script on, at the front of an array.
+fn gathered(script: &[u8], place: usize, n: usize) -> [u8; 8]
+    requires { ⌜ (n ≤ 8) × (place ≤ 5000000) ⌝ }
+    ensures { λ r. ⌜ (length r ≡ 8) × (take n r ≡ bytesAt (now (script .entry)) place n) ⌝ }
+{
+    let mut bytes = [0u8; 8];
+    let mut i = 0;
+    while i < n {
+        bytes[i] = script::byte_from(script, place + 8 * i);
+        i += 1;
+    }
+    bytes
+}
+
+// The write at a place, of n bytes.
+fn written(script: &[u8], place: usize, n: usize, bridge: Bridge) -> Answer
+    requires { ⌜ (n ≤ 3) × (place ≤ 4900000) ⌝ }
+    ensures { λ r. ⌜ (r .number ≡ writeNumber (bytesAt (now (script .entry)) (place + 4) n) bridge)
+        × (r .bridge ≡ afterWrite (bytesAt (now (script .entry)) (place + 4) n) bridge) ⌝ }
+{
+    let bytes = gathered(script, place + 4, n);
+    bridge.write(&bytes[..n])
+}
+
+// The fitting at a place.
+fn fitted(script: &[u8], place: usize, bridge: Bridge) -> Answer
+    requires { ⌜ place ≤ 4900000 ⌝ }
+    ensures { λ r. ⌜ (r .number ≡ fitNumber (bytesAt (now (script .entry)) (place + 2) 8) (bridge .line))
+        × (r .bridge ≡ afterFitting (bytesAt (now (script .entry)) (place + 2) 8) bridge) ⌝ }
+{
+    let id = gathered(script, place + 2, 8);
+    bridge.fit(&id)
+}
+
+// The events of a well-formed script, each with its line. Each kind has its own way round the loop, so that a read moves no bridge.
+fn run(script: &[u8], out: &mut [u8]) -> usize
+    requires { ⌜ (isScript (now script) ≡ true) × (180136 ≤ length (now out)) ⌝ }
+    ensures { λ r. ⌜ Put (now (out .entry)) (now (out .exit)) 0 r (linesFrom (now (script .entry)) (countOf (now (script .entry))) 1 16 powerOn) ⌝ }
+    ensures { λ r. ⌜ r ≤ 180136 ⌝ }
+{
+    let count = script::count_of(script);
+    let mut bridge = Bridge::power_on();
+    let mut done: u16 = 0;
+    let mut place = script::FIRST;
+    let mut at: usize = 0;
+    while done < count {
+        let here = place;
+        let head = script::head_at(script, here);
+        place += script::size_of(head);
+        done += 1;
+        match head / 4 {
+            script::WRITE => {
+                let answer = written(script, here, (head % 4) as usize, bridge);
+                at = text::put_number_line(out, at, done, b'W', answer.number);
+                let after = answer.bridge;
+                bridge = after;
+            }
+            script::READ => {
+                at = text::put_byte_line(out, at, done, bridge.read());
+            }
+            script::WAIT => {
+                at = text::put_number_line(out, at, done, b'T', 0);
+                bridge = bridge.wait();
+            }
+            _ => {
+                let answer = fitted(script, here, bridge);
+                at = text::put_number_line(out, at, done, b'F', answer.number);
+                let after = answer.bridge;
+                bridge = after;
+            }
+        }
+    }
+    at
+}
+
+// Writes what the bench prints to the front of the buffer, and returns how many bytes that is.
+pub fn transcript(script: &[u8], out: &mut [u8; MOST]) -> usize
+    ensures { λ r. ⌜ r ≡ length (transcriptOf (now (script .entry))) ⌝ }
+    ensures { λ _. ⌜ now (out .exit) ≡ transcriptOf (now (script .entry)) ++ drop (length (transcriptOf (now (script .entry)))) (now (out .entry)) ⌝ }
+{
+    let printed: &mut [u8] = out;
+    if script::is_script(script) {
+        run(script, printed)
+    } else {
+        text::put_refusal(printed)
+    }
+}
