@@ -186,7 +186,7 @@ fn passes(allowed: usize, start: Bridge) -> Found
     let mut bridge = start;
     let mut ids = [0u64; 64];
     let mut previous: u64 = 0;
-    let mut conflict = Conflict::Nowhere;
+    let mut last = Conflict::Nowhere;
     let mut count: usize = 0;
     while count < allowed {
         let bytes = [Bridge::ONE_WIRE_RESET];
@@ -194,7 +194,7 @@ fn passes(allowed: usize, start: Bridge) -> Found
         if !bridge.ppd {
             return Found::complete(ids, count, count + 1, bridge);
         }
-        let walk = pass(previous, conflict, bridge);
+        let walk = pass(previous, last, bridge);
         bridge = walk.bridge;
         if walk.silent {
             return Found::silent(ids, count, count + 1, bridge);
@@ -205,7 +205,7 @@ fn passes(allowed: usize, start: Bridge) -> Found
         let noted = walk.conflict;
         match noted {
             Conflict::Nowhere => return Found::complete(ids, count, count, bridge),
-            Conflict::At { bit } => conflict = Conflict::At { bit },
+            Conflict::At { bit } => last = Conflict::At { bit },
         }
     }
     Found::exhausted(ids, count, count, bridge)

@@ -2,7 +2,7 @@
 -- more, and that it has 64 is part of its type.
 use mathlib.Core.Path.{_≡_, sym, ap, _∙_}
 use mathlib.Core.List.{_++_}
-use Prim.Native.Nat.{ℕ, _≤_}
+use Prim.Native.Nat.{ℕ, _*_, _≤_}
 use native.Mathlib.Omega.{arith}
 use lib.ListN.{length, take, drop, length-map}
 use lib.Seq.{length-take-le}
@@ -72,6 +72,8 @@ returns-3 c =
     let a = f .before .before .before .before .args in
     let r = f .all .result in
     let within : r .count ≤ length (r .ids) = omega (arith, f .all .ensures .1, f .all .ensures .2, f .before .before .at-most .ensures) in
+    let put : c .before .before .before .put .last .0 ≡ listOf (take (r .count) (r .ids)) ++ drop (8 * r .count) (a .list .now) =
+    cc (c .before .before .before .put .ensures) in
     let o =
     done (a .b) (a .list .now) (a .bridge) (omega arith)
     (ap (λ (v : Result). v .silent) (found f) ∙ c .before .before .before .before .before .before .before .if2 .left) in (
@@ -80,7 +82,7 @@ returns-3 c =
           ∙ sym (o .answer),
       (
         ap (λ (v : Result). v .bridge) (sym (found f)) ∙ sym (o .state),
-        c .before .before .before .put .ensures
+        put
             ∙ ap (λ (n : ℕ). listOf (take (r .count) (r .ids)) ++ drop n (a .list .now)) (sym (length-firsts (r .ids) (r .count) within))
             ∙ ap (λ (v : Result). listOf (v .ids) ++ drop (length (listOf (v .ids))) (a .list .now)) (sym (found f))
             ∙ sym (o .buffer),

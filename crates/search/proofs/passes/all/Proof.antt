@@ -1,5 +1,5 @@
 -- `passes::all` meets its contract: with no pass allowed nothing is done, and otherwise the Device Reset comes first.
-use mathlib.Core.Path.{_≡_, refl, sym, ap, _∙_}
+use mathlib.Core.Path.{_≡_, refl, sym, ap}
 use mathlib.Core.List.{[], _∷_}
 use Prim.Native.Nat.{ℕ, zero, suc}
 use native.Mathlib.Omega.{arith}
@@ -39,13 +39,8 @@ passes-requires c κs = search needs
 returns-2 : tie.Need-returns-2
 returns-2 c =
     let s = c .before .before .before .before in
-    let e = c .passes .ensures in (
-      e .0
-          ∙ ap (λ (b : Bridge). searched (s .args .allowed) 0 Nowhere b) (c .before .command .ensures)
-          ∙ some (s .args .allowed) (s .args .bridge) (c .before .before .before .if1 .left),
-      e .1,
-      e .2,
-    )
+    let e = c .passes .ensures in
+    (cc (some (s .args .allowed) (s .args .bridge) (c .before .before .before .if1 .left)), omega (arith, e .1), e .2)
 
 pub all-spec : {M : Type 1} → statement M
 all-spec =

@@ -15,12 +15,12 @@ use Rattle.search.proofs.passes.passes.Statement.{statement}
 use Rattle.search.proofs.passes.passes.Tie as tie
 
 abbrev Inv-loop : tie.InvT-loop
-Inv-loop allowed bridge₀ ids₀ previous₀ conflict₀ count₀ bridge ids previous conflict count =
+Inv-loop allowed bridge₀ ids₀ previous₀ last₀ count₀ bridge ids previous last count =
     (count ≤ allowed) × (length ids ≡ 64)
-    × (searched allowed 0 Nowhere bridge₀ ≡ onward (take count ids) (searched (allowed - count) previous conflict bridge))
+    × (searched allowed 0 Nowhere bridge₀ ≡ onward (take count ids) (searched (allowed - count) previous last bridge))
 
 abbrev μ-loop : tie.MeasureT-loop
-μ-loop allowed bridge₀ ids₀ previous₀ conflict₀ count₀ bridge ids previous conflict count = allowed - count
+μ-loop allowed bridge₀ ids₀ previous₀ last₀ count₀ bridge ids previous last count = allowed - count
 
 -- ---- what is found
 
