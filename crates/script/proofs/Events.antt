@@ -13,7 +13,7 @@ use lib.Dec.{eqb, leb, ltb}
 use lib.ListN.{length}
 use borrow.Author.Tests.{leb-true}
 use Rattle.script.specs.Script.{numberAt, kindAt, lengthAt, sizeFor, sizeAt, endOf, countOf, isPadded, isScript}
-use Rattle.script.proofs.Bits.{numberAt-lt, numberAt-add}
+use Rattle.script.proofs.Numbers.{numberAt-lt, numberAt-add}
 
 -- ---- the head of an event
 

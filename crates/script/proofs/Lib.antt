@@ -1,2 +1,3 @@
-pub mod Bits
 pub mod Events
+pub mod Held
+pub mod Numbers

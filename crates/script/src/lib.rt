@@ -54,7 +54,7 @@ fn at_most_widest(n: u32) -> u32
 }
 
 // The n bits from a place on, as a number; of more than eight, the first eight.
-pub fn bits_at(script: &[u8], place: usize, n: u32) -> u32
+fn bits_at(script: &[u8], place: usize, n: u32) -> u32
     ensures { λ r. ⌜ r ≡ numberAt (now (script .entry)) place (min n 8) ⌝ }
 {
     let n = at_most_widest(n);
@@ -63,18 +63,59 @@ pub fn bits_at(script: &[u8], place: usize, n: u32) -> u32
     (pair >> behind) % (1 << n)
 }
 
+// ---- the reader
+
+// The script's reader: a place in the script, kept with the script's bytes.
+pub struct Reader<'a> {
+    pub script: &'a [u8],
+    pub place: usize,
+}
+
+// A reader at the script's first bit.
+pub fn opened<'a>(script: &'a [u8]) -> Reader<'a>
+    ensures { λ r. ⌜ (r .script ≡ script .entry) × (r .place ≡ 0) ⌝ }
+{
+    Reader { script, place: 0 }
+}
+
+// The reader at another place.
+pub fn moved<'a>(r: Reader<'a>, place: usize) -> Reader<'a>
+    ensures { λ q. ⌜ (q .script ≡ r .entry .script) × (q .place ≡ place) ⌝ }
+{
+    Reader {
+        script: r.script,
+        place,
+    }
+}
+
+// The n bits from the reader's place on, as `bits_at` has them.
+pub fn bits<'a>(r: Reader<'a>, n: u32) -> u32
+    ensures { λ x. ⌜ x ≡ numberAt (now (r .entry .script)) (r .entry .place) (min n 8) ⌝ }
+{
+    bits_at(r.script, r.place, n)
+}
+
+// What a reader of the script finds at a place. Its callers have plain slices and numbers.
+pub fn bits_from(script: &[u8], place: usize, n: u32) -> u32
+    ensures { λ x. ⌜ x ≡ numberAt (now (script .entry)) place (min n 8) ⌝ }
+{
+    bits(moved(opened(script), place), n)
+}
+
+// ---- the events
+
 // The first four bits of an event: its kind, and the byte count of a write.
 pub fn head_at(script: &[u8], place: usize) -> u8
     ensures { λ r. ⌜ r ≡ numberAt (now (script .entry)) place 4 ⌝ }
 {
-    bits_at(script, place, 4) as u8
+    bits_from(script, place, 4) as u8
 }
 
 // The byte from a place on.
 pub fn byte_from(script: &[u8], place: usize) -> u8
     ensures { λ r. ⌜ r ≡ numberAt (now (script .entry)) place 8 ⌝ }
 {
-    bits_at(script, place, 8) as u8
+    bits_from(script, place, 8) as u8
 }
 
 pub fn count_of(script: &[u8]) -> u16
@@ -119,7 +160,7 @@ fn is_padded(script: &[u8], end: usize) -> bool
     if 8 <= left {
         return false;
     }
-    bits_at(script, end, left as u32) == 0
+    bits_from(script, end, left as u32) == 0
 }
 
 // The bytes are of the script's form.

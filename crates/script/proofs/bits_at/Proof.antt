@@ -2,7 +2,7 @@
 use mathlib.Core.Path.{ap, _∙_}
 use native.Mathlib.Omega.{arith}
 use Rattle.script.specs.Script.{numberAt}
-use Rattle.script.proofs.Bits.{power-pos, numberAt-shifted}
+use Rattle.script.proofs.Numbers.{power-pos, numberAt-shifted}
 use borrow.Author.Needs.{needs}
 use Rattle.script.proofs.bits_at.Statement.{statement}
 use Rattle.script.proofs.bits_at.Tie as tie

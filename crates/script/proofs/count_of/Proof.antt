@@ -1,6 +1,6 @@
 -- `script::count_of` meets its contract: the count is the first two bytes.
 use mathlib.Core.Path.{sym}
-use Rattle.script.proofs.Bits.{countOf-pair}
+use Rattle.script.proofs.Numbers.{countOf-pair}
 use borrow.Author.Needs.{needs}
 use Rattle.script.proofs.count_of.Statement.{statement}
 use Rattle.script.proofs.count_of.Tie as tie

@@ -1,18 +1,18 @@
 -- `script::head_at` meets its contract: four bits fit a byte.
 use native.Mathlib.Omega.{arith}
-use Rattle.script.proofs.Bits.{numberAt-lt}
+use Rattle.script.proofs.Numbers.{numberAt-lt}
 use borrow.Author.Needs.{needs}
 use Rattle.script.proofs.head_at.Statement.{statement}
 use Rattle.script.proofs.head_at.Tie as tie
 
-bits-at-requires : tie.Need-bits-at-requires
-bits-at-requires c κs = search needs
+bits-from-requires : tie.Need-bits-from-requires
+bits-from-requires c κs = search needs
 
 cast-result : tie.Need-cast-result
-cast-result c = omega (arith, c .bits-at .ensures, numberAt-lt (c .before .before .args .script .now) (c .before .before .args .place) 4)
+cast-result c = omega (arith, c .bits-from .ensures, numberAt-lt (c .before .before .args .script .now) (c .before .before .args .place) 4)
 
 returns : tie.Need-returns
 returns c = search needs
 
 pub head-at-spec : {M : Type 1} → statement M
-head-at-spec = tie.close (tie.spec bits-at-requires cast-result returns)
+head-at-spec = tie.close (tie.spec bits-from-requires cast-result returns)

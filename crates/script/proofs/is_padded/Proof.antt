@@ -25,11 +25,11 @@ returns-2 c =
     let w = 8 * length (a .script .now) in
     simp (le-leb (a .end) w (c .before .if1 .left), le-ltb w (a .end + 8) (omega arith))
 
-cast-bits-at : tie.Need-cast-bits-at
-cast-bits-at c = search needs
+cast-bits-from : tie.Need-cast-bits-from
+cast-bits-from c = search needs
 
-bits-at-requires : tie.Need-bits-at-requires
-bits-at-requires c κs = search needs
+bits-from-requires : tie.Need-bits-from-requires
+bits-from-requires c κs = search needs
 
 returns-3 : tie.Need-returns-3
 unfolding isPadded
@@ -38,8 +38,8 @@ returns-3 c =
     let w = 8 * length (a .script .now) in
     let few : w - a .end ≤ 8 = omega arith in
     simp (le-leb (a .end) w (c .before .before .if1 .left), lt-ltb w (a .end + 8) (omega arith))
-    (ap (λ (x : ℕ). eqb x 0) (c .bits-at .ensures ∙ ap (numberAt (a .script .now) (a .end)) (min-eq-left few)))
+    (ap (λ (x : ℕ). eqb x 0) (c .bits-from .ensures ∙ ap (numberAt (a .script .now) (a .end)) (min-eq-left few)))
 
 pub is-padded-spec : {M : Type 1} → statement M
 is-padded-spec =
-    tie.close (tie.spec mul-whole returns returns-2 cast-bits-at bits-at-requires returns-3)
+    tie.close (tie.spec mul-whole returns returns-2 cast-bits-from bits-from-requires returns-3)

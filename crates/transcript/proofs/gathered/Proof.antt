@@ -7,7 +7,7 @@ use lib.ListN.{length, take, set, length-set}
 use lib.Seq.{take-suc-set}
 use native.Mathlib.Numerals.{add-one}
 use Rattle.script.specs.Script.{bytesAt}
-use Rattle.script.proofs.Bits.{bytesAt-snoc}
+use Rattle.script.proofs.Numbers.{bytesAt-snoc}
 use Rattle.transcript.proofs.gathered.Statement.{statement}
 use Rattle.transcript.proofs.gathered.Tie as tie
 
