@@ -1,0 +1,72 @@
+// Lines with probes, and states of a bridge in which a search may find them.
+use crate::probes;
+use bridge::Bridge;
+
+fn with(bridge: Bridge, id: &[u8; 8]) -> Bridge {
+    bridge.fit(id).bridge
+}
+
+pub fn of_two(first: &[u8; 8], second: &[u8; 8]) -> Bridge {
+    with(with(Bridge::power_on(), first), second)
+}
+
+pub fn of_three(first: &[u8; 8], second: &[u8; 8], third: &[u8; 8]) -> Bridge {
+    with(of_two(first, second), third)
+}
+
+fn with_numbered(bridge: Bridge, n: u8) -> Bridge {
+    let id = probes::numbered(n);
+    with(bridge, &id)
+}
+
+pub fn of_64() -> Bridge {
+    let mut bridge = Bridge::power_on();
+    let mut n: u8 = 0;
+    while n < 64 {
+        bridge = with_numbered(bridge, n);
+        n += 1;
+    }
+    bridge
+}
+
+// ---- what was before
+
+fn command(bridge: Bridge, bytes: &[u8]) -> Bridge {
+    bridge.write(bytes).bridge.wait()
+}
+
+fn rom(bridge: Bridge, code: u8) -> Bridge {
+    let bytes = [Bridge::WRITE_BYTE, code];
+    command(command(bridge, b"\xB4"), &bytes)
+}
+
+pub fn with_pending(bridge: Bridge) -> Bridge {
+    rom(bridge, probe::SEARCH_ROM).write(b"\x78\x80").bridge
+}
+
+pub fn skipped(bridge: Bridge) -> Bridge {
+    rom(bridge, probe::SKIP_ROM)
+}
+
+pub fn resumed(bridge: Bridge) -> Bridge {
+    rom(bridge, probe::RESUME)
+}
+
+pub fn configured(bridge: Bridge) -> Bridge {
+    command(command(bridge, b"\x96"), b"\xD2\xE1")
+}
+
+fn triplet(bridge: Bridge) -> Bridge {
+    command(bridge, b"\x78\x80")
+}
+
+// Ten triplets of a pass that takes 1 where it can.
+pub fn in_a_pass(bridge: Bridge) -> Bridge {
+    let mut b = rom(bridge, probe::SEARCH_ROM);
+    let mut k: u8 = 0;
+    while k < 10 {
+        b = triplet(b);
+        k += 1;
+    }
+    b
+}

@@ -1,0 +1,102 @@
+// The search's cases of document 01, "Tried on paper", and of what the paper leaves to be tried, run through the calls. Each line of the
+// output is one search: what it answers, the status afterwards, and the IDs, family code first. Before a search every byte of its list
+// is EEh.
+mod lines;
+mod probes;
+mod say;
+mod show;
+
+use bridge::Bridge;
+use probes::A;
+use probes::B;
+use probes::C;
+
+// Searches of a line, each from the state that the one before it left.
+fn paper() {
+    let bridge = lines::of_three(&A, &B, &C);
+    let none = show::search(b"A, B, C, b = 0", bridge, 0);
+    let one = show::search(b"A, B, C, b = 1", none, 1);
+    let two = show::search(b"A, B, C, b = 2", one, 2);
+    let three = show::search(b"A, B, C, b = 3", two, 3);
+    show::search(b"A, B, C, b = 4", three, 4);
+    let empty = Bridge::power_on();
+    show::search(b"no probe, b = 0", empty, 0);
+    show::search(b"no probe, b = 1", empty, 1);
+    show::search(b"no probe, b = 65535", empty, 65535);
+}
+
+fn full() {
+    let bridge = lines::of_64();
+    show::ends(b"64 probes, b = 1", bridge, 1);
+    show::ends(b"64 probes, b = 63", bridge, 63);
+    show::ends(b"64 probes, b = 64", bridge, 64);
+    show::ends(b"64 probes, b = 65535", bridge, 65535);
+}
+
+// IDs that are far apart and near each other in search order. With a right CRC no two differ in one bit alone.
+fn near() {
+    show::search(
+        b"bit 0 and the CRC differ",
+        lines::of_two(&probes::ODD, &probes::EVEN),
+        3,
+    );
+    show::search(
+        b"bits 55, 58, 59 and 63 differ",
+        lines::of_two(&probes::HIGH, &probes::LOW),
+        3,
+    );
+}
+
+// What the bridge and the line were doing before does not matter.
+fn before() {
+    let bridge = lines::of_three(&A, &B, &C);
+    show::search(b"a triplet pending", lines::with_pending(bridge), 3);
+    show::search(b"in the middle of a pass", lines::in_a_pass(bridge), 3);
+    show::search(b"after Skip ROM", lines::skipped(bridge), 3);
+    show::search(
+        b"after a configuration and a read",
+        lines::configured(bridge),
+        3,
+    );
+}
+
+// The list: at the bound, one byte shorter, and longer. The first 40 bytes of a buffer of 512 are shown.
+fn lists() {
+    let bridge = lines::of_three(&A, &B, &C);
+    show::room(b"b = 2, list of 16 bytes", bridge, 2, 16);
+    show::room(
+        b"b = 2, list of 15 bytes",
+        lines::with_pending(bridge),
+        2,
+        15,
+    );
+    show::room(b"b = 3, list of 40 bytes", bridge, 3, 40);
+    show::room(b"b = 65535, list of 512 bytes", bridge, 65535, 512);
+    show::room(b"b = 65535, list of 511 bytes", bridge, 65535, 511);
+    show::room(b"b = 64, list of 511 bytes", bridge, 64, 511);
+    show::room(b"b = 63, list of 504 bytes", bridge, 63, 504);
+    show::room(b"b = 0, list of no bytes", bridge, 0, 0);
+}
+
+fn resumed() {
+    let bridge = lines::of_three(&A, &B, &C);
+    show::resumed(b"Resume after b = 0", bridge, 0);
+    show::resumed(b"Resume after b = 1", bridge, 1);
+    show::resumed(b"Resume after b = 2", bridge, 2);
+    show::resumed(b"Resume after b = 3", bridge, 3);
+    show::resumed(b"Resume after b = 65535", bridge, 65535);
+    show::resumed(
+        b"Resume after a search of the line of 64",
+        lines::of_64(),
+        64,
+    );
+}
+
+fn main() {
+    paper();
+    full();
+    near();
+    before();
+    lists();
+    resumed();
+}
