@@ -164,15 +164,60 @@ static void work(int kind)
             status = triplet(0) | (status & 0x1F);
 }
 
-/* For each letter of the input, w, r or s, 2,000 rounds of that work; then the status and the read-data byte. */
+/* One pass of a search: the ID it ends at, and in *conflict its last conflict, or -1. */
+static uint64_t pass(uint64_t previous, int *conflict)
+{
+    uint64_t id = 0;
+    int last = *conflict, next = -1;
+    reset();
+    status = (status & 0xFC) | 0x02;
+    write_byte(0xF0);
+    for (int k = 0; k < 64; k++) {
+        unsigned d = k < last ? (unsigned)(previous >> k & 1) : k == last;
+        status = triplet((int)d) | (status & 0x1F);
+        if (!(status & 0x60) && !(status & 0x80))
+            next = k;
+        id |= (uint64_t)(status >> 7 & 1) << k;
+    }
+    *conflict = next;
+    return id;
+}
+
+static unsigned search(uint8_t *list)
+{
+    unsigned count = 0;
+    uint64_t id = 0;
+    int conflict = -1;
+    status = 0x18;
+    do {
+        id = pass(id, &conflict);
+        for (int k = 0; k < 8; k++)
+            list[8 * count + k] = (uint8_t)(id >> 8 * k);
+        count++;
+    } while (conflict >= 0 && count < 64);
+    return count;
+}
+
+/*
+ * For each letter of the input, w, r or s, 2,000 rounds of that work; then the status and the read-data byte. For f 20 full searches;
+ * then how many IDs the last one listed, and the status.
+ */
 int main(void)
 {
+    static uint8_t list[512];
     for (unsigned i = 1; i <= 64; i++)
         fit(i);
     for (int kind = getchar(); kind != EOF; kind = getchar()) {
-        for (int i = 0; i < 2000; i++)
-            work(kind);
-        printf("%02x %02x\n", status, readout);
+        unsigned count = 0;
+        if (kind == 'f') {
+            for (int i = 0; i < 20; i++)
+                count = search(list);
+            printf("%u %02x\n", count, status);
+        } else {
+            for (int i = 0; i < 2000; i++)
+                work(kind);
+            printf("%02x %02x\n", status, readout);
+        }
     }
     return 0;
 }
