@@ -1,4 +1,4 @@
--- What lets several slots be done in one go. Only functions inside the crate speak of it; the contracts outside are those of the slots.
+-- What lets several slots be done in one go. Of this only tookTwo stands in the contract of a public function.
 --   rests p          no slot changes p
 --   quietFor n p     p sends nothing in the next n slots, whatever their levels
 --   tookBits n x p   p after n slots whose levels are the low n bits of x, low bit first
