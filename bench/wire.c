@@ -152,11 +152,11 @@ static void work(int kind)
 {
     reset();
     status |= 0x02;
-    write_byte(kind == 'r' ? 0x33 : 0xF0);
-    if (kind == 'w')
+    write_byte(kind == 'r' || kind == 'p' ? 0x33 : 0xF0);
+    if (kind == 'w' || kind == 'p')
         for (unsigned k = 0; k < 8; k++)
             write_byte(k);
-    if (kind == 'r')
+    if (kind == 'r' || kind == 'm')
         for (int k = 0; k < 8; k++)
             readout = read_byte();
     if (kind == 's')
@@ -199,7 +199,7 @@ static unsigned search(uint8_t *list)
 }
 
 /*
- * For each letter of the input, w, r or s, 2,000 rounds of that work; then the status and the read-data byte. For f 20 full searches;
+ * For each letter of the input, w, r, s, p or m, 2,000 rounds of that work; then the status and the read-data byte. For f 20 full searches;
  * then how many IDs the last one listed, and the status.
  */
 int main(void)

@@ -1,5 +1,4 @@
 pub mod Writes
-pub mod Slots
 pub mod Effects
 pub mod Reach
 pub mod Unique

@@ -7,14 +7,14 @@
 --   afterTime b        the state after time has passed
 --   afterFitting x b   the state after fitting the ID of the bytes x
 --   command x b        the state after the write x and time passing
-use Prim.Native.Nat.{ℕ, zero, suc, _+_, _*_, _/_, _%_}
+use Prim.Native.Nat.{ℕ, _+_, _*_, _/_, _%_}
 use mathlib.Core.Bool.{Bool, true, false, cond}
 use mathlib.Core.List.{List, [], _∷_}
 use lib.Dec.{eqb}
 use lib.ListN.{length, getD}
 use Rattle.probe.specs.Probe.{digit}
 use Rattle.line.specs.declared.Line.{Line}
-use Rattle.line.specs.Line.{bare, level, slot, resetAll, present, afterFit}
+use Rattle.line.specs.Line.{bare, level, slot, slots, levels, resetAll, present, afterFit}
 use Rattle.bridge.specs.declared.Pointer.{Pointer}
 use Rattle.bridge.specs.declared.Pointer.the-variants.{Status, ReadData, Configuration}
 use Rattle.bridge.specs.declared.Pending.{Pending}
@@ -198,28 +198,14 @@ unfoldable pub finishedBit : Bool → Bridge → Bridge
 finishedBit w b =
     finished (b .dir) (b .tsb) (level w (b .line)) (b .ppd) (b .readout) (slot w (b .line)) b
 
--- n slots with the low n bits of x, low bit first.
-unfoldable pub written : ℕ → ℕ → Line → Line
-written zero x l = l
-written (suc n) x l = written n (x / 2) (slot (eqb (x % 2) 1) l)
-
 -- A5h Write Byte: eight slots, low bit first.
 unfoldable pub finishedWrite : ℕ → Bridge → Bridge
-finishedWrite x b = finished (b .dir) (b .tsb) (b .sbr) (b .ppd) (b .readout) (written 8 x (b .line)) b
+finishedWrite x b = finished (b .dir) (b .tsb) (b .sbr) (b .ppd) (b .readout) (slots 8 x (b .line)) b
 
--- The line after n write-one slots, and their levels as a number, low bit first.
-unfoldable pub slotsOfOne : ℕ → Line → Line
-slotsOfOne zero l = l
-slotsOfOne (suc n) l = slotsOfOne n (slot true l)
-
-unfoldable pub levels : ℕ → Line → ℕ
-levels zero l = 0
-levels (suc n) l = digit (level true l) + 2 * levels n (slot true l)
-
--- 96h Read Byte: eight write-one slots; the levels go to read data.
+-- 96h Read Byte: eight write-one slots; their levels go to read data, the first in the low bit.
 unfoldable pub finishedRead : Bridge → Bridge
 finishedRead b =
-    finished (b .dir) (b .tsb) (b .sbr) (b .ppd) (levels 8 (b .line)) (slotsOfOne 8 (b .line)) b
+    finished (b .dir) (b .tsb) (b .sbr) (b .ppd) (levels 8 0xFF (b .line)) (slots 8 0xFF (b .line)) b
 
 -- The bit that a triplet writes. Levels 0,0: the direction asked for; 0,1: 0; 1,0 and 1,1: 1.
 abbrev pub chosen : Bool → Bool → Bool → Bool

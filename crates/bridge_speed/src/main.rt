@@ -2,6 +2,8 @@
 //   w   1-Wire Reset, Search ROM and eight more bytes written
 //   r   1-Wire Reset, Read ROM and eight bytes read: every probe sends in every slot
 //   s   1-Wire Reset, Search ROM and 64 triplets: a whole pass of a search
+//   p   1-Wire Reset, Read ROM and eight bytes written: every probe sends in every slot
+//   m   1-Wire Reset, Search ROM and eight bytes read
 // After each work it prints the status and the read-data byte.
 use bridge::Bridge;
 
@@ -70,6 +72,8 @@ fn round(bridge: Bridge, work: u8) -> Bridge {
         b'w' => bytes_after(command(reset, &[0xA5, 0xF0])),
         b'r' => reads_after(command(reset, &[0xA5, 0x33])),
         b's' => triplets_after(command(reset, &[0xA5, 0xF0])),
+        b'p' => bytes_after(command(reset, &[0xA5, 0x33])),
+        b'm' => reads_after(command(reset, &[0xA5, 0xF0])),
         _ => reset,
     }
 }
@@ -94,7 +98,7 @@ fn shown(bridge: Bridge) {
 }
 
 fn main() {
-    let mut works = [0; 3];
+    let mut works = [0; 5];
     let n = io::read_full(0, &mut works);
     let mut bridge = with_64();
     let mut i = 0;

@@ -1,5 +1,5 @@
 pub mod Front
 pub mod Steps
-pub mod Together
+pub mod Each
 pub mod Places
 pub mod Unique

@@ -6,18 +6,19 @@
 --   level w l          what the wire carries in a slot in which the bridge writes w
 --   slot w l           the line after that slot
 --   slots n x l        the line after n slots with the low n bits of x, low bit first
+--   levels n x l       the levels of those slots as a number, the first in the low bit
 --   resetAll l         the line after a 1-Wire reset
 --   present l          some probe is fitted
 --   fitNumber x l      the number that fitting the ID of the bytes x gives
 --   afterFit x l       the line after that
-use Prim.Native.Nat.{ℕ, zero, suc, _+_, _/_, _%_}
+use Prim.Native.Nat.{ℕ, zero, suc, _+_, _*_, _/_, _%_}
 use mathlib.Core.Bool.{Bool, true, false, cond}
 use mathlib.Core.List.{List, [], _∷_, _++_, map}
 use lib.Dec.{eqb, leb, ltb}
 use lib.ListN.{take, drop, set, replicate}
 use Rattle.identity.specs.Identity.{numberOf, refusalOf}
 use Rattle.probe.specs.declared.Probe.{Probe}
-use Rattle.probe.specs.Probe.{deafNew, sends, took, reset}
+use Rattle.probe.specs.Probe.{deafNew, sends, took, reset, digit}
 use Rattle.line.specs.declared.Line.{Line}
 
 -- Every element passes the test; some element does.
@@ -58,6 +59,11 @@ slot w l = onFitted (took (level w l)) l
 unfoldable pub slots : ℕ → ℕ → Line → Line
 slots zero x l = l
 slots (suc n) x l = slots n (x / 2) (slot (eqb (x % 2) 1) l)
+
+-- Their levels, the first in the low bit.
+unfoldable pub levels : ℕ → ℕ → Line → ℕ
+levels zero x l = 0
+levels (suc n) x l = digit (level (eqb (x % 2) 1) l) + 2 * levels n (x / 2) (slot (eqb (x % 2) 1) l)
 
 unfoldable pub resetAll : Line → Line
 resetAll l = onFitted reset l

@@ -4,15 +4,13 @@
 // every probe takes that level.
 //
 // Worked example: two probes that send 1 and 0 leave the line at 0 in a slot in which the bridge writes 1.
-use probe::Condition;
 use probe::Probe;
-use probe::Slot;
 ghost use mathlib.Core.Path.{_≡_};
-ghost use mathlib.Core.Bool.{true};
+ghost use mathlib.Core.Bool.{cond};
+ghost use lib.Dec.{ltb};
 ghost use Prim.Native.Nat.{_<_, _≤_};
 ghost use lib.ListN.{length, take, drop};
-ghost use Rattle.line.specs.Line.{all, fitted, bare, onFitted, level, slot, slots, resetAll, present, isFitted, fitNumber, withProbe, afterFit};
-ghost use Rattle.line.specs.Together.{rests, quietFor, tookBits, sendsAfter, sendsAfterTwo, tookTwo, tookThree};
+ghost use Rattle.line.specs.Line.{all, fitted, bare, onFitted, level, slot, resetAll, present, isFitted, fitNumber, withProbe, afterFit};
 ghost use Rattle.probe.specs.Probe.{sends, took, reset};
 
 // The numbers that fitting returns besides those of the ID itself ("Numbers returned").
@@ -37,139 +35,10 @@ pub struct Slotted {
     pub line: Line,
 }
 
-// The levels of two slots.
-pub struct TwoLevels {
-    pub first: bool,
-    pub second: bool,
-}
-
 // The number that a fitting returns and the line after it.
 pub struct Fitting {
     pub number: u8,
     pub line: Line,
-}
-
-// No slot changes the probe.
-fn rests(p: Probe) -> bool
-    ensures { λ r. ⌜ r ≡ rests p ⌝ }
-{
-    let condition = p.condition;
-    match condition {
-        Condition::Deaf => true,
-        Condition::Taking { count: _, code: _ } => false,
-        Condition::Sending { bit: _ } => false,
-        Condition::Matching { bit: _ } => false,
-        Condition::Searching { bit: _, slot: _ } => false,
-        Condition::Selected => true,
-    }
-}
-
-// The probe sends nothing in the next eight slots, whatever their levels.
-fn quiet(p: Probe) -> bool
-    ensures { λ r. ⌜ r ≡ quietFor 8 p ⌝ }
-{
-    let condition = p.condition;
-    match condition {
-        Condition::Deaf => true,
-        Condition::Taking { count, code: _ } => count == 0,
-        Condition::Sending { bit: _ } => false,
-        Condition::Matching { bit: _ } => true,
-        Condition::Searching { bit: _, slot: _ } => false,
-        Condition::Selected => true,
-    }
-}
-
-// The probe after a slot of this level. One that sends its ID goes on to the next bit, whatever the level.
-fn took_one(p: Probe, level: bool) -> Probe
-    ensures { λ r. ⌜ r ≡ took level p ⌝ }
-{
-    let condition = p.condition;
-    match condition {
-        Condition::Sending { bit } => {
-            if 63 <= bit {
-                Probe {
-                    id: p.id,
-                    marked: p.marked,
-                    condition: Condition::Selected,
-                }
-            } else {
-                Probe {
-                    id: p.id,
-                    marked: p.marked,
-                    condition: Condition::Sending { bit: bit + 1 },
-                }
-            }
-        }
-        _ => p.took(level),
-    }
-}
-
-// The probe after eight slots whose levels are the bits of a byte.
-fn took_byte(before: Probe, byte: u8) -> Probe
-    ensures { λ r. ⌜ r ≡ tookBits 8 byte before ⌝ }
-{
-    let mut p = before;
-    let mut rest = byte;
-    let mut left: u8 = 8;
-    while 0 < left {
-        p = p.took(rest % 2 == 1);
-        rest = rest / 2;
-        left -= 1;
-    }
-    p
-}
-
-// What the probe lets the line be in the slot after one of this level. A searching probe sends the bit and then its complement.
-fn sends_after(p: Probe, level: bool) -> bool
-    ensures { λ r. ⌜ r ≡ sendsAfter level p ⌝ }
-{
-    let condition = p.condition;
-    match condition {
-        Condition::Deaf => true,
-        Condition::Selected => true,
-        Condition::Searching { bit, slot } => match slot {
-            Slot::First => !identity::bit(p.id, bit),
-            _ => p.took(level).sends(),
-        },
-        _ => p.took(level).sends(),
-    }
-}
-
-// The probe after two slots. A searching probe that was in the first is in the third, whatever the levels.
-fn took_two(p: Probe, first: bool, second: bool) -> Probe
-    ensures { λ r. ⌜ r ≡ tookTwo first second p ⌝ }
-{
-    let condition = p.condition;
-    match condition {
-        Condition::Searching { bit, slot } => match slot {
-            Slot::First => Probe {
-                id: p.id,
-                marked: p.marked,
-                condition: Condition::Searching {
-                    bit,
-                    slot: Slot::Third,
-                },
-            },
-            _ => p.took(first).took(second),
-        },
-        _ => p.took(first).took(second),
-    }
-}
-
-fn sends_after_two(p: Probe, first: bool, second: bool) -> bool
-    ensures { λ r. ⌜ r ≡ sendsAfterTwo first second p ⌝ }
-{
-    if rests(p) {
-        true
-    } else {
-        took_two(p, first, second).sends()
-    }
-}
-
-fn took_three(p: Probe, first: bool, second: bool, third: bool) -> Probe
-    ensures { λ r. ⌜ r ≡ tookThree first second third p ⌝ }
-{
-    took_two(p, first, second).took(third)
 }
 
 impl Line {
@@ -191,10 +60,12 @@ impl Line {
         0 < self.count
     }
 
-    // How many entries are fitted. No line has more than 64, so the bound is never met; with it the loops need no premise.
-    fn entries(self) -> usize
+    // How many entries are fitted. No line has more than 64, so the bound is never met; with it the loops need no premise. The
+    // last clause is the answer, the others are what a loop over the entries asks.
+    pub fn entries(self) -> usize
         ensures { λ r. ⌜ (length (self .probes) ≡ 64) × (r ≤ 64)
-            × (take r (self .probes) ≡ fitted self) × (drop r (self .probes) ≡ drop (self .count) (self .probes)) ⌝ }
+            × (take r (self .probes) ≡ fitted self) × (drop r (self .probes) ≡ drop (self .count) (self .probes))
+            × (r ≡ cond (ltb (self .count) 64) (self .count) 64) ⌝ }
     {
         let count = self.count;
         if count < MOST { count } else { MOST }
@@ -233,8 +104,8 @@ impl Line {
             let at = i;
             let p = self.probes[at];
             i += 1;
-            if !rests(p) {
-                self.probes[at] = took_one(p, level);
+            if !p.rests() {
+                self.probes[at] = p.took(level);
             }
         }
         self
@@ -248,141 +119,6 @@ impl Line {
         Slotted {
             level,
             line: self.taken(level),
-        }
-    }
-
-    // No probe sends 0 in the slot after one of this level.
-    fn all_send_after(self, level: bool) -> bool
-        ensures { λ r. ⌜ r ≡ all (sendsAfter level) (fitted self) ⌝ }
-    {
-        let n = self.entries();
-        let mut i = 0;
-        while i < n {
-            let p = self.probes[i];
-            if !sends_after(p, level) {
-                return false;
-            }
-            i += 1;
-        }
-        true
-    }
-
-    // No probe sends 0 in the slot after two of these levels.
-    fn all_send_after_two(self, first: bool, second: bool) -> bool
-        ensures { λ r. ⌜ r ≡ all (sendsAfterTwo first second) (fitted self) ⌝ }
-    {
-        let n = self.entries();
-        let mut i = 0;
-        while i < n {
-            let p = self.probes[i];
-            if !sends_after_two(p, first, second) {
-                return false;
-            }
-            i += 1;
-        }
-        true
-    }
-
-    // Every probe takes three levels, one after the other.
-    fn taken_three(mut self, first: bool, second: bool, third: bool) -> Line
-        ensures { λ r. ⌜ r ≡ onFitted (tookThree first second third) self ⌝ }
-    {
-        let n = self.entries();
-        let mut i = 0;
-        while i < n {
-            let at = i;
-            let p = self.probes[at];
-            i += 1;
-            if !rests(p) {
-                self.probes[at] = took_three(p, first, second, third);
-            }
-        }
-        self
-    }
-
-    // The levels of two slots in which the bridge writes 1.
-    pub fn two_levels(self) -> TwoLevels
-        ensures { λ r. ⌜ (r .first ≡ level true self) × (r .second ≡ level true (slot true self)) ⌝ }
-    {
-        let first = self.all_send();
-        let second = self.all_send_after(first);
-        TwoLevels { first, second }
-    }
-
-    // Two slots of these levels and one in which the bridge writes a bit; each probe takes the three in one go.
-    pub fn slot_after_two(self, first: bool, second: bool, write: bool) -> Line
-        ensures { λ r. ⌜ r ≡ slot write (onFitted (tookTwo first second) self) ⌝ }
-    {
-        if write {
-            let third = self.all_send_after_two(first, second);
-            self.taken_three(first, second, third)
-        } else {
-            self.taken_three(first, second, false)
-        }
-    }
-
-    // No probe sends anything in the next eight slots.
-    fn silent(self) -> bool
-        ensures { λ r. ⌜ r ≡ all (quietFor 8) (fitted self) ⌝ }
-    {
-        let n = self.entries();
-        let mut i = 0;
-        while i < n {
-            let p = self.probes[i];
-            if !quiet(p) {
-                return false;
-            }
-            i += 1;
-        }
-        true
-    }
-
-    // Every probe takes eight levels, the bits of a byte.
-    fn taken_byte(mut self, byte: u8) -> Line
-        ensures { λ r. ⌜ r ≡ onFitted (tookBits 8 byte) self ⌝ }
-    {
-        let n = self.entries();
-        let mut i = 0;
-        while i < n {
-            let at = i;
-            let p = self.probes[at];
-            i += 1;
-            if !rests(p) {
-                self.probes[at] = took_byte(p, byte);
-            }
-        }
-        self
-    }
-
-    fn after_slot(self, write: bool) -> Line
-        ensures { λ r. ⌜ r ≡ slot write self ⌝ }
-    {
-        let level = self.level(write);
-        self.taken(level)
-    }
-
-    fn slot_by_slot(self, byte: u8) -> Line
-        ensures { λ r. ⌜ r ≡ slots 8 byte self ⌝ }
-    {
-        let mut line = self;
-        let mut rest = byte;
-        let mut left: u8 = 8;
-        while 0 < left {
-            line = line.after_slot(rest % 2 == 1);
-            rest = rest / 2;
-            left -= 1;
-        }
-        line
-    }
-
-    // Eight slots with the bits of a byte, low bit first. On a silent line the levels are those bits, and each probe takes them in one go.
-    pub fn slots(self, byte: u8) -> Line
-        ensures { λ r. ⌜ r ≡ slots 8 byte self ⌝ }
-    {
-        if self.silent() {
-            self.taken_byte(byte)
-        } else {
-            self.slot_by_slot(byte)
         }
     }
 

@@ -3,6 +3,7 @@
 --   sends p            what p lets the line be in a slot: false where it sends 0, true where it sends 1 or nothing
 --   obeyed c p         p once the ROM command c is whole
 --   took l p           p after a slot of level l
+--   rests p            no slot changes p
 --   reset p            p after a 1-Wire reset
 use Prim.Native.Nat.{ℕ, _+_, _*_, _/_}
 use mathlib.Core.Bool.{Bool, true, false, cond, not}
@@ -105,6 +106,18 @@ tookIn Selected l p = p
 
 unfoldable pub took : Bool → Probe → Probe
 took l p = tookIn (p .condition) l p
+
+-- No slot changes a probe that is deaf or selected.
+unfoldable pub restsIn : Condition → Bool
+restsIn Deaf = true
+restsIn (Taking n c) = false
+restsIn (Sending k) = false
+restsIn (Matching k) = false
+restsIn (Searching k s) = false
+restsIn Selected = true
+
+unfoldable pub rests : Probe → Bool
+rests p = restsIn (p .condition)
 
 -- A 1-Wire reset puts every probe into taking a command with no bits.
 abbrev pub reset : Probe → Probe

@@ -7,7 +7,7 @@
 ghost use mathlib.Core.Path.{_≡_};
 ghost use Prim.Native.Nat.{_+_, _*_, _/_};
 ghost use Rattle.probe.specs.Probe.{deafNew, inCondition, withMark, sendsSearching, sends, resumed, obeyed, reset, digit, agrees};
-ghost use Rattle.probe.specs.Probe.{tookCode, tookSending, tookMatching, tookSearching, took};
+ghost use Rattle.probe.specs.Probe.{tookCode, tookSending, tookMatching, tookSearching, took, rests};
 
 // The ROM commands.
 pub const READ_ROM: u8 = 0x33;
@@ -134,7 +134,7 @@ impl Probe {
     // ---- what a probe becomes
 
     // The probe once a ROM command is whole.
-    fn obeyed(self, code: u8) -> Probe
+    pub fn obeyed(self, code: u8) -> Probe
         ensures { λ r. ⌜ r ≡ obeyed code self ⌝ }
     {
         match code {
@@ -233,6 +233,21 @@ impl Probe {
                 slot: Slot::Third,
             }),
             Slot::Third => self.took_third(bit, level),
+        }
+    }
+
+    // No slot changes the probe.
+    pub fn rests(self) -> bool
+        ensures { λ r. ⌜ r ≡ rests self ⌝ }
+    {
+        let condition = self.condition;
+        match condition {
+            Condition::Deaf => true,
+            Condition::Taking { count: _, code: _ } => false,
+            Condition::Sending { bit: _ } => false,
+            Condition::Matching { bit: _ } => false,
+            Condition::Searching { bit: _, slot: _ } => false,
+            Condition::Selected => true,
         }
     }
 

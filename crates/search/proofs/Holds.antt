@@ -1,6 +1,6 @@
 -- The line keeps its IDs, and what it has beside them, in everything but a fitting.
 --   obeyed-id, took-id    a probe keeps its ID
---   holds-f               the line keeps its IDs and its free entries in f: slot, reset, written, ones, time, command
+--   holds-f               the line keeps its IDs and its free entries in f: slot, reset, slots, time, command
 --   write-line            a write leaves the line
 use mathlib.Core.Path.{_≡_, refl, ap, ap₂, subst⁻¹, _∙_}
 use mathlib.Core.Bool.{Bool, true, false, cond}
@@ -14,11 +14,11 @@ use Rattle.probe.specs.declared.Condition.the-variants.{Deaf, Taking, Sending, 
 use Rattle.probe.specs.declared.Probe.{Probe}
 use Rattle.probe.specs.Probe.{digit, agrees, reset, obeyed, took, tookIn, tookCode, tookSending, tookMatching, tookSearching}
 use Rattle.line.specs.declared.Line.{Line}
-use Rattle.line.specs.Line.{idOf, onFitted, slot, level, resetAll}
+use Rattle.line.specs.Line.{idOf, onFitted, slot, level, resetAll, slots}
 use Rattle.bridge.specs.declared.Pending.{Pending}
 use Rattle.bridge.specs.declared.Pending.the-variants.{Nothing, Reset, SingleBit, WriteByte, ReadByte, Triplet}
 use Rattle.bridge.specs.declared.Bridge.{Bridge}
-use Rattle.bridge.specs.Bridge.{obeyed as obeyedBy, writeNumber, afterWrite, written, slotsOfOne, finishedOf, finishedReset, finishedBit, finishedWrite, finishedRead, finishedTriplet, afterTime, command}
+use Rattle.bridge.specs.Bridge.{obeyed as obeyedBy, writeNumber, afterWrite, finishedOf, finishedReset, finishedBit, finishedWrite, finishedRead, finishedTriplet, afterTime, command}
 use Rattle.search.proofs.Words.{Rest, Holds}
 use Rattle.search.proofs.Wire.{onFitted-lineOf}
 
@@ -75,15 +75,10 @@ module _ {ids : List ℕ} {rest : Rest} where
   unfolding resetAll
   holds-reset h = holds-on reset (λ p. refl) h
 
-  holds-written : (n x : ℕ) {l : Line} → Holds ids rest l → Holds ids rest (written n x l)
-  unfolding written
-  holds-written zero x h = h
-  holds-written (suc n) x h = holds-written n (x / 2) (holds-slot (eqb (x % 2) 1) h)
-
-  holds-ones : (n : ℕ) {l : Line} → Holds ids rest l → Holds ids rest (slotsOfOne n l)
-  unfolding slotsOfOne
-  holds-ones zero h = h
-  holds-ones (suc n) h = holds-ones n (holds-slot true h)
+  holds-slots : (n x : ℕ) {l : Line} → Holds ids rest l → Holds ids rest (slots n x l)
+  unfolding slots
+  holds-slots zero x h = h
+  holds-slots (suc n) x h = holds-slots n (x / 2) (holds-slot (eqb (x % 2) 1) h)
 
   -- time passing
   pub holds-time : (b : Bridge) → Holds ids rest (b .line) → Holds ids rest (afterTime b .line)
@@ -94,8 +89,8 @@ module _ {ids : List ℕ} {rest : Rest} where
       go Nothing = h
       go Reset = holds-reset h
       go (SingleBit w) = holds-slot w h
-      go (WriteByte x) = holds-written 8 x h
-      go ReadByte = holds-ones 8 h
+      go (WriteByte x) = holds-slots 8 x h
+      go ReadByte = holds-slots 8 0xFF h
       go (Triplet d) = holds-slot _ (holds-slot true (holds-slot true h))
 
 -- a write leaves the line

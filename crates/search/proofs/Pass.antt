@@ -16,11 +16,11 @@ use Rattle.probe.specs.declared.Slot.the-variants.{Second}
 use Rattle.probe.specs.declared.Probe.{Probe}
 use lib.Dec.{ltb, lit<}
 use Rattle.probe.specs.Probe.{digit, reset, obeyed}
-use Rattle.line.specs.Line.{level, slot, idOf, resetAll, present}
+use Rattle.line.specs.Line.{level, slot, idOf, resetAll, present, slots}
 use Rattle.bridge.specs.declared.Bridge.{Bridge}
 use Rattle.bridge.specs.declared.Pending.the-variants.{Nothing, Triplet}
 use Rattle.bridge.proofs.Effects.{command-reset, command-write, command-triplet}
-use Rattle.bridge.specs.Bridge.{isPending, busy, pended, chosen, written, finishedReset, finishedWrite, finishedTriplet, command}
+use Rattle.bridge.specs.Bridge.{isPending, busy, pended, chosen, finishedReset, finishedWrite, finishedTriplet, command}
 use Rattle.search.specs.declared.passes.Conflict.{Conflict}
 use Rattle.search.specs.declared.passes.Conflict.the-variants.{Nowhere, At}
 use Rattle.search.specs.declared.passes.Walk.{Walk}
@@ -28,7 +28,7 @@ use Rattle.search.specs.Search.{direction, noted, tripletByte, tookTripl
 use Rattle.enumeration.proofs.Tree.{has, child, taken, noted as notedAt, ending, deeper, last}
 use Rattle.enumeration.proofs.Bits.{child-lt, has-split}
 use Rattle.search.proofs.Words.{Rest, lineOf, stand, standing, gathered, onto, Under, Idle}
-use Rattle.search.proofs.Wire.{first-slot, second-slot, third-slot, first-level, second-level, resetAll-lineOf, written-reset, obeyed-search, ids-standing}
+use Rattle.search.proofs.Wire.{first-slot, second-slot, third-slot, first-level, second-level, resetAll-lineOf, slots-reset, obeyed-search, ids-standing}
 
 -- ---- a triplet on the bridge
 
@@ -206,8 +206,8 @@ module _ (b : Bridge) (ps : List Probe) (rest : Rest) (line : b .line ≡ lineOf
   unfolding finishedWrite
   commanded-line x =
       ap (λ (r : Bridge). r .line) (command-write (command (0xB4 ∷ []) b) (free (command (0xB4 ∷ []) b) reset-idle) x)
-      ∙ ap (written 8 x) reset-line
-      ∙ written-reset x ps rest
+      ∙ ap (slots 8 x) reset-line
+      ∙ slots-reset x ps rest
 
   pub commanded-idle : (x : ℕ) → command (0xA5 ∷ x ∷ []) (command (0xB4 ∷ []) b) .pending ≡ Nothing
   unfolding finishedWrite

@@ -2,7 +2,7 @@
 --   lineOf-parts                  every line is given so
 --   f-lineOf                      what f makes of such a line, for fitted, idsOf, onFitted, level, slot, resetAll
 --   slot-quiet                    a slot in which no probe sends
---   written-reset                 a byte written after a reset is obeyed by all
+--   slots-reset                 a byte written after a reset is obeyed by all
 --   first-slot .. third-slot      the slots of bit k on the path a
 --   first-level, second-level     the levels of the first two: is the branch 0 there, is the branch 1 there
 --   obeyed-search                 Search ROM puts every probe to bit 0 of the empty path
@@ -26,8 +26,7 @@ use Rattle.probe.specs.declared.Condition.the-variants.{Searching}
 use Rattle.probe.specs.declared.Probe.{Probe}
 use Rattle.probe.specs.Probe.{deafNew, inCondition, digit, sends, sendsIn, sendsSearching, obeyed, took, tookIn, tookCode, tookSearching, agrees, reset}
 use Rattle.line.specs.declared.Line.{Line}
-use Rattle.line.specs.Line.{all, fitted, idOf, idsOf, onFitted, level, slot, resetAll}
-use Rattle.bridge.specs.Bridge.{written}
+use Rattle.line.specs.Line.{all, fitted, idOf, idsOf, onFitted, level, slot, resetAll, slots}
 use Rattle.enumeration.proofs.Tree.{begins, has, child}
 use Rattle.enumeration.proofs.Bits.{begins-child}
 use Rattle.search.proofs.Words.Rest.{free, over}
@@ -141,20 +140,20 @@ heard-quiet : (n c : ℕ) (p : Probe) → sends (heard n c p) ≡ true
 unfolding sends sendsIn
 heard-quiet n c p = refl
 
-written-heard : (m n x c : ℕ) (ps : List Probe) (rest : Rest) → n + suc m ≡ 8 → written (suc m) x (lineOf (map (heard n c) ps) rest) ≡ lineOf (map (obeyed (gathered (suc m) x c)) ps) rest
-unfolding written gathered
-written-heard zero n x c ps rest e =
+slots-heard : (m n x c : ℕ) (ps : List Probe) (rest : Rest) → n + suc m ≡ 8 → slots (suc m) x (lineOf (map (heard n c) ps) rest) ≡ lineOf (map (obeyed (gathered (suc m) x c)) ps) rest
+unfolding slots gathered
+slots-heard zero n x c ps rest e =
     slot-quiet (eqb (x % 2) 1) (heard n c) (obeyed (c / 2 + 128 * digit (eqb (x % 2) 1))) (heard-quiet n c)
     (λ p. took-whole (eqb (x % 2) 1) n c p (omega arith)) ps rest
-written-heard (suc m) n x c ps rest e =
-    ap (written (suc m) (x / 2))
+slots-heard (suc m) n x c ps rest e =
+    ap (slots (suc m) (x / 2))
     (slot-quiet (eqb (x % 2) 1) (heard n c) (heard (n + 1) (c / 2 + 128 * digit (eqb (x % 2) 1))) (heard-quiet n c)
     (λ p. took-more (eqb (x % 2) 1) n c p (omega arith)) ps rest)
-    ∙ written-heard m (n + 1) (x / 2) (c / 2 + 128 * digit (eqb (x % 2) 1)) ps rest (omega arith)
+    ∙ slots-heard m (n + 1) (x / 2) (c / 2 + 128 * digit (eqb (x % 2) 1)) ps rest (omega arith)
 
 -- after a reset all obey the byte, its bits having been gathered again
-pub written-reset : (x : ℕ) (ps : List Probe) (rest : Rest) → written 8 x (lineOf (map reset ps) rest) ≡ lineOf (map (obeyed (gathered 8 x 0)) ps) rest
-written-reset x ps rest = written-heard 7 0 x 0 ps rest refl
+pub slots-reset : (x : ℕ) (ps : List Probe) (rest : Rest) → slots 8 x (lineOf (map reset ps) rest) ≡ lineOf (map (obeyed (gathered 8 x 0)) ps) rest
+slots-reset x ps rest = slots-heard 7 0 x 0 ps rest refl
 
 -- ---- a triplet
 

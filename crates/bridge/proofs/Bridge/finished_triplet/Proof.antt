@@ -1,7 +1,7 @@
 -- `Bridge::finished_triplet` meets its contract: two write-one slots by their levels, then the slot of the bit chosen.
 use Rattle.bridge.specs.Bridge.{finishedTriplet}
 use borrow.Author.Needs.{needs}
-use Rattle.line.proofs.Together.{second-slot}
+use Rattle.triplet_slots.proofs.After.{second-slot}
 use Rattle.bridge.proofs.Bridge.finished_triplet.Statement.{statement}
 use Rattle.bridge.proofs.Bridge.finished_triplet.Tie as tie
 

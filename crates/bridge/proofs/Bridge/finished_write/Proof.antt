@@ -1,7 +1,6 @@
 -- `Bridge::finished_write` meets its contract, by those of the slots and of `finished`.
 use Rattle.bridge.specs.Bridge.{finishedWrite}
 use borrow.Author.Needs.{needs}
-use Rattle.bridge.proofs.Slots.{written-slots}
 use Rattle.bridge.proofs.Bridge.finished_write.Statement.{statement}
 use Rattle.bridge.proofs.Bridge.finished_write.Tie as tie
 
@@ -13,7 +12,7 @@ finished-requires c κs = search needs
 
 returns : tie.Need-returns
 unfolding finishedWrite
-returns c = simp (c .finished .ensures, c .before .slots .ensures, written-slots)
+returns c = simp (c .finished .ensures, c .before .before .slots .ensures .1)
 
 pub finished-write-spec : {M : Type 1} → statement M
 finished-write-spec = tie.close (tie.spec slots-requires finished-requires returns)

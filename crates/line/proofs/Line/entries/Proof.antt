@@ -2,6 +2,7 @@
 -- of its type.
 use mathlib.Core.Path.{_≡_, refl, sym, _∙_}
 use native.Mathlib.Omega.{arith}
+use borrow.Author.Tests.{lt-ltb, le-ltb}
 use lib.ListN.{length, length-map}
 use Rattle.line.specs.Line.{fitted}
 use Rattle.line.proofs.Front.{take-beyond, drop-beyond}
@@ -13,7 +14,7 @@ whole c = sym (length-map (c .args .self .probes) _) ∙ c .good .0 .1 .1 .0 .1 
 
 returns : tie.Need-returns
 unfolding fitted
-returns c = (whole (c .before), omega arith, refl, refl)
+returns c = (whole (c .before), omega arith, refl, refl, simp (lt-ltb (c .before .args .self .count) 64 (omega arith)))
 
 returns-2 : tie.Need-returns-2
 unfolding fitted
@@ -24,6 +25,7 @@ returns-2 c =
       omega arith,
       take-beyond (l .probes) 64 (l .count) (omega arith) (omega arith),
       drop-beyond (l .probes) 64 (l .count) (omega arith) (omega arith),
+      simp (le-ltb (l .count) 64 (omega arith)),
     )
 
 pub entries-spec : {M : Type 1} → statement M

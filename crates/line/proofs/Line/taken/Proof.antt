@@ -6,7 +6,7 @@ use borrow.Author.Needs.{needs}
 use borrow.Author.Tests.{not-false}
 use Rattle.probe.specs.Probe.{took}
 use Rattle.line.proofs.Steps.{after, after-next, after-kept, after-all}
-use Rattle.line.proofs.Together.{took-rests}
+use Rattle.probe.proofs.Rests.{took-rests}
 use Rattle.line.proofs.Line.taken.Statement.{statement}
 use Rattle.line.proofs.Line.taken.Tie as tie
 
@@ -34,8 +34,8 @@ add-i c = omega arith
 rests-requires : tie.Need-rests-requires Inv-loop μ-loop
 rests-requires c κs = search needs
 
-took-one-requires : tie.Need-took-one-requires Inv-loop μ-loop
-took-one-requires c κs = search needs
+took-requires : tie.Need-took-requires Inv-loop μ-loop
+took-requires c κs = search needs
 
 mul-t16 : tie.Need-mul-t16 Inv-loop μ-loop
 mul-t16 c = omega arith
@@ -51,7 +51,7 @@ loop-again c =
     let l = c .before .before .before .before .before .loop in
     let a = c .before .before .before .before .before .before .before .args in (
       omega arith,
-      after-next (took (a .level)) (a .t1) (l .self) (l .i) _ (c .took-one .result) (omega arith) (l .inv .1) (c .took-one .ensures),
+      after-next (took (a .level)) (a .t1) (l .self) (l .i) _ (c .took .result) (omega arith) (l .inv .1) (c .took .ensures),
     )
 
 loop-less-2 : tie.Need-loop-less-2 Inv-loop μ-loop
@@ -87,7 +87,7 @@ taken-spec =
     element-copy-out-p
     add-i
     rests-requires
-    took-one-requires
+    took-requires
     mul-t16
     element-set-from-self
     loop-less

@@ -1,0 +1,5 @@
+pub mod Digits
+pub mod Foresight
+pub mod Whole
+pub mod Turns
+pub mod Unique

@@ -1,0 +1,97 @@
+-- `byte_slots::taken_byte` meets its contract: the entries gone through have taken the byte, those that rest too, whom it does not change.
+use mathlib.Core.Path.{_≡_, refl, sym, _∙_, ap}
+use Prim.Native.Nat.{ℕ, _≤_, _-_}
+use native.Mathlib.Omega.{arith}
+use borrow.Author.Needs.{needs}
+use borrow.Author.Tests.{not-false}
+use Rattle.byte_slots.specs.Foresight.{tookBits}
+use Rattle.line.proofs.Steps.{after, after-next, after-kept, after-all}
+use Rattle.byte_slots.proofs.Whole.{tookBits-rests}
+use Rattle.byte_slots.proofs.taken_byte.Statement.{statement}
+use Rattle.byte_slots.proofs.taken_byte.Tie as tie
+
+abbrev Inv-loop : tie.InvT-loop
+Inv-loop byte line₀ n i₀ line i = (i ≤ n) × (line ≡ after (tookBits 8 byte) i line₀)
+
+abbrev μ-loop : tie.MeasureT-loop
+μ-loop byte line₀ n i₀ line i = n - i
+
+entries-requires : tie.Need-entries-requires Inv-loop μ-loop
+entries-requires c κs = search needs
+
+loop-holds : tie.Need-loop-holds Inv-loop μ-loop
+loop-holds c = (omega arith, refl)
+
+mul-p : tie.Need-mul-p Inv-loop μ-loop
+mul-p c = omega arith
+
+element-copy-out-p : tie.Need-element-copy-out-p Inv-loop μ-loop
+element-copy-out-p c = omega arith
+
+add-i : tie.Need-add-i Inv-loop μ-loop
+add-i c = omega arith
+
+rests-requires : tie.Need-rests-requires Inv-loop μ-loop
+rests-requires c κs = search needs
+
+took-byte-requires : tie.Need-took-byte-requires Inv-loop μ-loop
+took-byte-requires c κs = search needs
+
+mul-t16 : tie.Need-mul-t16 Inv-loop μ-loop
+mul-t16 c = omega arith
+
+element-set-from-line : tie.Need-element-set-from-line Inv-loop μ-loop
+element-set-from-line c = omega arith
+
+loop-less : tie.Need-loop-less Inv-loop μ-loop
+loop-less c = omega arith
+
+loop-again : tie.Need-loop-again Inv-loop μ-loop
+loop-again c =
+    let l = c .before .before .before .before .before .loop in
+    let a = c .before .before .before .before .before .before .before .args in (
+      omega arith,
+      after-next (tookBits 8 (a .byte)) (a .t1) (l .line) (l .i) _ (c .took-byte .result) (omega arith) (l .inv .1) (c .took-byte .ensures),
+    )
+
+loop-less-2 : tie.Need-loop-less-2 Inv-loop μ-loop
+loop-less-2 c = omega arith
+
+loop-again-2 : tie.Need-loop-again-2 Inv-loop μ-loop
+loop-again-2 c =
+    let l = c .before .before .before .before .loop in
+    let a = c .before .before .before .before .before .before .args in
+    let resting = sym (c .before .rests .ensures) ∙ not-false _ (c .if1 .left) in (
+      omega arith,
+      after-kept (tookBits 8 (a .byte)) (a .t1) (l .line) (l .i) _ (omega arith) (l .inv .1) (tookBits-rests 8 (a .byte) _ resting),
+    )
+
+returns : tie.Need-returns Inv-loop μ-loop
+returns c =
+    let l = c .before .loop in
+    let e = c .before .before .entries in
+    let a = c .before .before .before .args in
+    let stop : l .i ≡ e .result = omega arith in
+    l .inv .1 ∙ ap (λ (k : ℕ). after (tookBits 8 (a .byte)) k (a .t1)) stop
+    ∙ after-all (tookBits 8 (a .byte)) (a .t1) (e .result) (e .ensures .2) (e .ensures .3)
+
+pub taken-byte-spec : {M : Type 1} → statement M
+taken-byte-spec =
+    tie.close
+    (tie.spec
+    Inv-loop
+    μ-loop
+    entries-requires
+    loop-holds
+    mul-p
+    element-copy-out-p
+    add-i
+    rests-requires
+    took-byte-requires
+    mul-t16
+    element-set-from-line
+    loop-less
+    loop-again
+    loop-less-2
+    loop-again-2
+    returns)

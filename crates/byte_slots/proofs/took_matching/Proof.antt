@@ -1,0 +1,42 @@
+-- `byte_slots::took_matching` meets its contract: by whether the eight bits are those of the byte.
+use mathlib.Core.Path.{sym, ap, _∙_}
+use native.Mathlib.Omega.{arith}
+use Rattle.byte_slots.proofs.Whole.{matching-next, matching-last, matching-differs}
+use borrow.Author.Needs.{needs}
+use Rattle.byte_slots.proofs.took_matching.Statement.{statement}
+use Rattle.byte_slots.proofs.took_matching.Tie as tie
+
+took-bits-requires : tie.Need-took-bits-requires
+took-bits-requires c κs = search needs
+
+returns : tie.Need-returns
+returns c = search needs
+
+eight-bits-requires : tie.Need-eight-bits-requires
+eight-bits-requires c κs = search needs
+
+returns-2 : tie.Need-returns-2
+returns-2 c =
+    let start = c .before .before .before in
+    let a = start .args in
+    sym (matching-differs 8 (a .bit) (a .byte) (a .p) (start .pre) (omega arith) (λ s. c .if2 .taken (c .before .eight-bits .ensures ∙ s ∙ omega arith)))
+
+add-t8 : tie.Need-add-t8
+add-t8 c = search needs
+
+returns-3 : tie.Need-returns-3
+returns-3 c =
+    let start = c .before .before .before .before in
+    let a = start .args in
+    sym (matching-next 8 (a .bit) (a .byte) (a .p) (start .pre) (omega arith) (sym (c .before .before .eight-bits .ensures) ∙ c .before .if2 .left ∙ omega arith))
+
+returns-4 : tie.Need-returns-4
+returns-4 c =
+    let start = c .before .before .before .before in
+    let a = start .args in
+    sym (matching-last 7 (a .bit) (a .byte) (a .p) (start .pre) (omega arith) (sym (c .before .before .eight-bits .ensures) ∙ c .before .if2 .left ∙ omega arith))
+
+pub took-matching-spec : {M : Type 1} → statement M
+took-matching-spec =
+    tie.close
+    (tie.spec took-bits-requires returns eight-bits-requires returns-2 add-t8 returns-3 returns-4)

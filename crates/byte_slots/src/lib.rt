@@ -1,0 +1,239 @@
+// The eight slots of a byte, in one go where that is the same as slot after slot.
+//
+// What a probe sends in the eight slots to come is mostly settled before they begin. Where it is for every probe, the levels are found
+// first and each probe takes all of them at once.
+//
+// Worked example: a line of two probes that send their IDs, the next eight bits of one being 3Fh and of the other F5h, reads as 35h.
+use line::Line;
+use probe::Condition;
+use probe::Probe;
+ghost use mathlib.Core.Path.{_≡_};
+ghost use Prim.Native.Nat.{_+_, _*_, _/_, _%_, _^_};
+ghost use Rattle.probe.specs.declared.Condition.the-variants.{Sending, Matching};
+ghost use Rattle.probe.specs.Probe.{digit};
+ghost use Rattle.line.specs.Line.{all, fitted, onFitted, levels as levelsOf, slots as slotsOf};
+ghost use Rattle.byte_slots.specs.Foresight.{foreseen, ahead, meet, tookBits};
+
+// The levels of eight slots, the first in the low bit, and the line after them.
+pub struct Levels {
+    pub byte: u8,
+    pub line: Line,
+}
+
+// The number of a bit from which eight are left.
+const LAST_EIGHT: u8 = 56;
+
+// What the probe sends in the next eight slots does not depend on their levels.
+fn foreseen(p: Probe) -> bool
+    ensures { λ r. ⌜ r ≡ foreseen 8 p ⌝ }
+{
+    let condition = p.condition;
+    match condition {
+        Condition::Deaf => true,
+        Condition::Taking { count, code: _ } => count == 0,
+        Condition::Sending { bit } => bit <= LAST_EIGHT,
+        Condition::Matching { bit: _ } => true,
+        Condition::Searching { bit: _, slot: _ } => false,
+        Condition::Selected => true,
+    }
+}
+
+// The eight bits of an ID from this one up; those past the last are 0.
+fn eight_bits(id: u64, bit: u8) -> u8
+    ensures { λ r. ⌜ r ≡ id / 2 ^ bit % 256 ⌝ }
+{
+    if bit < 64 {
+        ((id >> bit) % 256) as u8
+    } else {
+        0
+    }
+}
+
+// What a foreseen probe lets the line be in the next eight slots, the first in the low bit.
+fn ahead(p: Probe) -> u8
+    ensures { λ r. ⌜ r ≡ ahead 8 p ⌝ }
+{
+    let condition = p.condition;
+    match condition {
+        Condition::Deaf => 255,
+        Condition::Taking { count: _, code: _ } => 255,
+        Condition::Sending { bit } => eight_bits(p.id, bit),
+        Condition::Matching { bit: _ } => 255,
+        Condition::Searching { bit: _, slot: _ } => 255,
+        Condition::Selected => 255,
+    }
+}
+
+// The probe after eight slots whose levels are the bits of a byte.
+fn took_bits(before: Probe, byte: u8) -> Probe
+    ensures { λ r. ⌜ r ≡ tookBits 8 byte before ⌝ }
+{
+    let mut p = before;
+    let mut rest = byte;
+    let mut left: u8 = 8;
+    while 0 < left {
+        p = p.took(rest % 2 == 1);
+        rest = rest / 2;
+        left -= 1;
+    }
+    p
+}
+
+// One that sends its ID goes on by eight bits, whatever the levels.
+fn took_sending(p: Probe, bit: u8, byte: u8) -> Probe
+    requires { ⌜ p .condition ≡ Sending bit ⌝ }
+    ensures { λ r. ⌜ r ≡ tookBits 8 byte p ⌝ }
+{
+    if bit < LAST_EIGHT {
+        Probe {
+            id: p.id,
+            marked: p.marked,
+            condition: Condition::Sending { bit: bit + 8 },
+        }
+    } else {
+        if bit == LAST_EIGHT {
+            Probe {
+                id: p.id,
+                marked: p.marked,
+                condition: Condition::Selected,
+            }
+        } else {
+            took_bits(p, byte)
+        }
+    }
+}
+
+// One that matches its ID goes on by eight bits if all of them agree.
+fn took_matching(p: Probe, bit: u8, byte: u8) -> Probe
+    requires { ⌜ p .condition ≡ Matching bit ⌝ }
+    ensures { λ r. ⌜ r ≡ tookBits 8 byte p ⌝ }
+{
+    if LAST_EIGHT < bit {
+        return took_bits(p, byte);
+    }
+    if eight_bits(p.id, bit) != byte {
+        return Probe {
+            id: p.id,
+            marked: p.marked,
+            condition: Condition::Deaf,
+        };
+    }
+    if bit < LAST_EIGHT {
+        Probe {
+            id: p.id,
+            marked: p.marked,
+            condition: Condition::Matching { bit: bit + 8 },
+        }
+    } else {
+        Probe {
+            id: p.id,
+            marked: true,
+            condition: Condition::Selected,
+        }
+    }
+}
+
+// The same, by the condition. A code of which no bit has come yet is the byte.
+fn took_byte(p: Probe, byte: u8) -> Probe
+    ensures { λ r. ⌜ r ≡ tookBits 8 byte p ⌝ }
+{
+    let condition = p.condition;
+    match condition {
+        Condition::Taking { count, code } => {
+            if count == 0 {
+                p.obeyed(byte)
+            } else {
+                took_bits(p, byte)
+            }
+        }
+        Condition::Sending { bit } => took_sending(p, bit, byte),
+        Condition::Matching { bit } => took_matching(p, bit, byte),
+        _ => took_bits(p, byte),
+    }
+}
+
+fn all_foreseen(line: Line) -> bool
+    ensures { λ r. ⌜ r ≡ all (foreseen 8) (fitted line) ⌝ }
+{
+    let n = line.entries();
+    let mut i = 0;
+    while i < n {
+        let p = line.probes[i];
+        if !foreseen(p) {
+            return false;
+        }
+        i += 1;
+    }
+    true
+}
+
+// The levels of eight slots on a line of foreseen probes, the bridge writing the bits of a byte.
+fn levels_ahead(line: Line, byte: u8) -> u8
+    ensures { λ r. ⌜ r ≡ meet 8 byte (fitted line) ⌝ }
+{
+    let n = line.entries();
+    let mut levels = byte;
+    let mut i = 0;
+    while i < n {
+        let p = line.probes[i];
+        levels = levels & ahead(p);
+        i += 1;
+    }
+    levels
+}
+
+// Every probe takes eight levels, the bits of a byte.
+fn taken_byte(mut line: Line, byte: u8) -> Line
+    ensures { λ r. ⌜ r ≡ onFitted (tookBits 8 byte) line ⌝ }
+{
+    let n = line.entries();
+    let mut i = 0;
+    while i < n {
+        let at = i;
+        let p = line.probes[at];
+        i += 1;
+        if !p.rests() {
+            line.probes[at] = took_byte(p, byte);
+        }
+    }
+    line
+}
+
+// A level goes in at the top of a byte and moves the earlier ones down, so that after eight the first is bit 0.
+fn with_level(byte: u8, level: bool) -> u8
+    ensures { λ r. ⌜ r ≡ byte / 2 + digit level * 128 ⌝ }
+{
+    if level { byte / 2 + 128 } else { byte / 2 }
+}
+
+fn slot_by_slot(start: Line, byte: u8) -> Levels
+    ensures { λ r. ⌜ (r .byte ≡ levelsOf 8 byte start) × (r .line ≡ slotsOf 8 byte start) ⌝ }
+{
+    let mut line = start;
+    let mut rest = byte;
+    let mut levels: u8 = 0;
+    let mut left: u8 = 8;
+    while 0 < left {
+        let level = line.level(rest % 2 == 1);
+        line = line.taken(level);
+        levels = with_level(levels, level);
+        rest = rest / 2;
+        left -= 1;
+    }
+    Levels { byte: levels, line }
+}
+
+// Eight slots with the bits of a byte, low bit first.
+pub fn slots(line: Line, byte: u8) -> Levels
+    ensures { λ r. ⌜ (r .byte ≡ levelsOf 8 byte line) × (r .line ≡ slotsOf 8 byte line) ⌝ }
+{
+    if all_foreseen(line) {
+        let levels = levels_ahead(line, byte);
+        Levels {
+            byte: levels,
+            line: taken_byte(line, levels),
+        }
+    } else {
+        slot_by_slot(line, byte)
+    }
+}

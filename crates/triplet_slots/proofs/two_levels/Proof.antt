@@ -1,0 +1,25 @@
+-- `triplet_slots::two_levels` meets its contract: the second level is that of the probes after the first.
+use mathlib.Core.Path.{_≡_, sym, ap, _∙_}
+use mathlib.Core.Bool.{Bool, true}
+use Rattle.line.specs.Line.{all, fitted, level}
+use Rattle.triplet_slots.specs.After.{sendsAfter}
+use Rattle.triplet_slots.proofs.After.{second-level}
+use borrow.Author.Needs.{needs}
+use Rattle.triplet_slots.proofs.two_levels.Statement.{statement}
+use Rattle.triplet_slots.proofs.two_levels.Tie as tie
+
+level-requires : tie.Need-level-requires
+level-requires c κs = search needs
+
+all-send-after-requires : tie.Need-all-send-after-requires
+all-send-after-requires c κs = search needs
+
+returns : tie.Need-returns
+unfolding level
+returns c =
+    let l = c .before .before .args .line in
+    let one : c .before .level .result ≡ level true l = c .before .level .ensures in
+    (one, c .all-send-after .ensures ∙ ap (λ (a : Bool). all (sendsAfter a) (fitted l)) one ∙ sym (second-level l))
+
+pub two-levels-spec : {M : Type 1} → statement M
+two-levels-spec = tie.close (tie.spec level-requires all-send-after-requires returns)

@@ -1,0 +1,142 @@
+// The three slots of a triplet, in one go.
+//
+// The first two levels are found without moving the line; once the bit of the third slot is chosen, each probe takes all three at once.
+//
+// Worked example: a searching probe whose next bit is 1 gives the levels 1 and 0, and after a third slot of 1 it searches on.
+use line::Line;
+use probe::Condition;
+use probe::Probe;
+use probe::Slot;
+ghost use mathlib.Core.Path.{_≡_};
+ghost use mathlib.Core.Bool.{true};
+ghost use Rattle.line.specs.Line.{all, fitted, onFitted, level, slot};
+ghost use Rattle.triplet_slots.specs.After.{sendsAfter, sendsAfterTwo, tookTwo, tookThree};
+
+// The levels of two slots.
+pub struct TwoLevels {
+    pub first: bool,
+    pub second: bool,
+}
+
+// What the probe lets the line be in the slot after one of this level. A searching probe sends the bit and then its complement.
+fn sends_after(p: Probe, level: bool) -> bool
+    ensures { λ r. ⌜ r ≡ sendsAfter level p ⌝ }
+{
+    let condition = p.condition;
+    match condition {
+        Condition::Deaf => true,
+        Condition::Selected => true,
+        Condition::Searching { bit, slot } => match slot {
+            Slot::First => !identity::bit(p.id, bit),
+            _ => p.took(level).sends(),
+        },
+        _ => p.took(level).sends(),
+    }
+}
+
+// The probe after two slots. A searching probe that was in the first is in the third, whatever the levels.
+fn took_two(p: Probe, first: bool, second: bool) -> Probe
+    ensures { λ r. ⌜ r ≡ tookTwo first second p ⌝ }
+{
+    let condition = p.condition;
+    match condition {
+        Condition::Searching { bit, slot } => match slot {
+            Slot::First => Probe {
+                id: p.id,
+                marked: p.marked,
+                condition: Condition::Searching {
+                    bit,
+                    slot: Slot::Third,
+                },
+            },
+            _ => p.took(first).took(second),
+        },
+        _ => p.took(first).took(second),
+    }
+}
+
+fn sends_after_two(p: Probe, first: bool, second: bool) -> bool
+    ensures { λ r. ⌜ r ≡ sendsAfterTwo first second p ⌝ }
+{
+    if p.rests() {
+        true
+    } else {
+        took_two(p, first, second).sends()
+    }
+}
+
+fn took_three(p: Probe, first: bool, second: bool, third: bool) -> Probe
+    ensures { λ r. ⌜ r ≡ tookThree first second third p ⌝ }
+{
+    took_two(p, first, second).took(third)
+}
+
+// No probe sends 0 in the slot after one of this level.
+fn all_send_after(line: Line, level: bool) -> bool
+    ensures { λ r. ⌜ r ≡ all (sendsAfter level) (fitted line) ⌝ }
+{
+    let n = line.entries();
+    let mut i = 0;
+    while i < n {
+        let p = line.probes[i];
+        if !sends_after(p, level) {
+            return false;
+        }
+        i += 1;
+    }
+    true
+}
+
+// No probe sends 0 in the slot after two of these levels.
+fn all_send_after_two(line: Line, first: bool, second: bool) -> bool
+    ensures { λ r. ⌜ r ≡ all (sendsAfterTwo first second) (fitted line) ⌝ }
+{
+    let n = line.entries();
+    let mut i = 0;
+    while i < n {
+        let p = line.probes[i];
+        if !sends_after_two(p, first, second) {
+            return false;
+        }
+        i += 1;
+    }
+    true
+}
+
+// Every probe takes three levels, one after the other.
+fn taken_three(mut line: Line, first: bool, second: bool, third: bool) -> Line
+    ensures { λ r. ⌜ r ≡ onFitted (tookThree first second third) line ⌝ }
+{
+    let n = line.entries();
+    let mut i = 0;
+    while i < n {
+        let at = i;
+        let p = line.probes[at];
+        i += 1;
+        if !p.rests() {
+            line.probes[at] = took_three(p, first, second, third);
+        }
+    }
+    line
+}
+
+// The levels of two slots in which the bridge writes 1.
+pub fn two_levels(line: Line) -> TwoLevels
+    ensures { λ r. ⌜ (r .first ≡ level true line) × (r .second ≡ level true (slot true line)) ⌝ }
+{
+    let first = line.level(true);
+    let second = all_send_after(line, first);
+    TwoLevels { first, second }
+}
+
+// Two slots of these levels and one in which the bridge writes a bit; each probe takes the three in one go.
+pub fn slot_after_two(line: Line, first: bool, second: bool, write: bool) -> Line
+    ensures { λ r. ⌜ r ≡ slot write (onFitted (tookTwo first second) line) ⌝ }
+{
+    if write {
+        let third = all_send_after_two(line, first, second);
+        taken_three(line, first, second, third)
+    } else {
+        taken_three(line, first, second, false)
+    }
+}
