@@ -1,5 +1,5 @@
 -- Each contract leaves one answer and one state for each argument.
-use mathlib.Core.Path.{_≡_, sym, ap₂, _∙_}
+use mathlib.Core.Path.{sym, ap₂, _∙_}
 use Prim.Native.Nat.{ℕ}
 use Rattle.checksum.proofs.Unique.{OneAnswer}
 use Rattle.bridge.specs.declared.Bridge.{Bridge}

@@ -1,5 +1,5 @@
 -- `byte_slots::levels_ahead` meets its contract: the levels are what the probes gone through have in common with the byte.
-use mathlib.Core.Path.{_≡_, refl, sym, ap, ap₂, _∙_}
+use mathlib.Core.Path.{_≡_, refl, ap, ap₂, _∙_}
 use Prim.Native.Nat.{ℕ, _≤_, _-_}
 use native.Mathlib.Omega.{arith}
 use lib.Bits.{bitAnd}

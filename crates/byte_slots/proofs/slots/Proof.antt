@@ -1,5 +1,5 @@
 -- `byte_slots::slots` meets its contract: on a line of foreseen probes the levels are known before the slots.
-use mathlib.Core.Path.{_≡_, sym, ap, _∙_}
+use mathlib.Core.Path.{sym, ap, _∙_}
 use Prim.Native.Nat.{ℕ, _%_}
 use native.Mathlib.Omega.{arith}
 use borrow.Author.Needs.{needs}

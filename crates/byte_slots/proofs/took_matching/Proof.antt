@@ -1,5 +1,5 @@
 -- `byte_slots::took_matching` meets its contract: by whether the eight bits are those of the byte.
-use mathlib.Core.Path.{sym, ap, _∙_}
+use mathlib.Core.Path.{sym, _∙_}
 use native.Mathlib.Omega.{arith}
 use Rattle.byte_slots.proofs.Whole.{matching-next, matching-last, matching-differs}
 use borrow.Author.Needs.{needs}

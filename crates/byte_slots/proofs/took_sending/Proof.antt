@@ -1,5 +1,5 @@
 -- `byte_slots::took_sending` meets its contract: eight bits further, or over with the last.
-use mathlib.Core.Path.{sym, ap, _∙_}
+use mathlib.Core.Path.{sym}
 use native.Mathlib.Omega.{arith}
 use Rattle.byte_slots.proofs.Whole.{sending-next, sending-last}
 use borrow.Author.Needs.{needs}

@@ -1,5 +1,5 @@
 -- `triplet_slots::sends_after` meets its contract: a resting probe sends nothing, a searching one its complement, and any other is asked after the slot.
-use mathlib.Core.Path.{_≡_, sym, ap, _∙_}
+use mathlib.Core.Path.{sym, ap, _∙_}
 use mathlib.Core.Bool.{not}
 use Rattle.probe.specs.declared.Condition.the-variants.{Searching}
 use Rattle.probe.specs.Probe.{sends}

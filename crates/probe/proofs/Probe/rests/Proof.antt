@@ -1,5 +1,5 @@
 -- `probe::Probe::rests` meets its contract: by the condition.
-use mathlib.Core.Path.{sym, ap, _∙_}
+use mathlib.Core.Path.{sym, ap}
 use Rattle.probe.specs.Probe.{rests, restsIn}
 use borrow.Author.Needs.{needs}
 use Rattle.probe.proofs.Probe.rests.Statement.{statement}
