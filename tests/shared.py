@@ -1,0 +1,51 @@
+"""What the tests of the bench and of tools/script share."""
+
+import importlib.util
+import subprocess
+import sys
+from importlib.machinery import SourceFileLoader
+from pathlib import Path
+
+ROOT = Path(__file__).resolve().parent.parent
+PATIENCE = 20  # seconds, for a program that should be done at once
+
+
+def loaded_tool():
+    """tools/script as a module. Its name has no ending, so it is loaded by its path."""
+    sys.dont_write_bytecode = True
+    loader = SourceFileLoader('script', str(ROOT / 'tools/script'))
+    module = importlib.util.module_from_spec(importlib.util.spec_from_loader('script', loader))
+    loader.exec_module(module)
+    return module
+
+
+def succeed(*command):
+    """Runs a command of the build; where it fails its output is shown and the test ends."""
+    done = subprocess.run(command, cwd=ROOT, stdout=subprocess.PIPE, stderr=subprocess.STDOUT, check=False)
+    if done.returncode != 0:
+        sys.exit(done.stdout.decode() + f'failed: {" ".join(map(str, command))}')
+
+
+def built_bench():
+    """The proved bench, built where it is not."""
+    succeed('rt', 'check', 'bench')
+    return ROOT / 'target/bin/bench'
+
+
+class Cases:
+    """Counts comparisons, and shows those that fail."""
+
+    def __init__(self, name):
+        self.name, self.passed, self.failed = name, 0, 0
+
+    def same(self, what, wanted, got):
+        if wanted == got:
+            self.passed += 1
+        else:
+            self.failed += 1
+            print(f'{self.name}: {what}\n  wanted {wanted[:400]!r}\n  got    {got[:400]!r}')
+
+    def end(self):
+        """The last line of a test; its exit status says whether all is well."""
+        print(f'{self.name}: {self.passed} cases passed' + (f', {self.failed} FAILED' if self.failed else ''))
+        sys.exit(1 if self.failed or not self.passed else 0)
