@@ -1,0 +1,207 @@
+"""Drawn scripts for tests/fuzz. A mix is a function from a source of random numbers to events; SCRIPTS names them all."""
+
+from shared import loaded_tool
+
+tool = loaded_tool()
+
+PARAMETERS = {  # of each command that has one, those that mean something, and some that look so
+    0xE1: (0xF0, 0xE1, 0xC3, 0xD2),
+    0xD2: (0xF0, 0xE1, 0xD2),
+    0x87: (0x00, 0x80),
+    0xA5: (0x33, 0x55, 0xF0, 0xCC, 0xA5),
+    0x78: (0x00, 0x80),
+}
+COMMANDS = (0xF0, 0xB4, 0x96, *PARAMETERS)
+READ, WAIT = ('read', b''), ('wait', b'')
+
+
+# ---- events
+
+
+def write(*data):
+    return 'write', bytes(data)
+
+
+def done(*data):
+    """A command that is given time."""
+    return [write(*data), WAIT]
+
+
+def crc8(data):
+    register = 0
+    for bit in (byte >> i & 1 for byte in data for i in range(8)):
+        register = register >> 1 ^ 0x8C * ((register ^ bit) & 1)
+    return bytes([register])
+
+
+def with_crc(data):
+    return bytes(data) + crc8(data)
+
+
+def new_id(source):
+    """A right ID. Two of them differ in few bits, so that a search goes on for long before they part."""
+    body = bytearray([source.choice((0x28, 0x28, 0x19, 0x02)), *bytes(6)])
+    for _ in range(source.randrange(5)):
+        body[source.randrange(1, 7)] ^= 1 << source.randrange(8)
+    return with_crc(body)
+
+
+def fitting(source, fitted):
+    """Mostly a new probe; else a wrong CRC, the family code 00, both, an ID from before, or any eight bytes."""
+    probe, way = new_id(source), source.randrange(16)
+    if way == 0:
+        probe = probe[:7] + bytes([probe[7] ^ 1 << source.randrange(8)])
+    elif way == 1:
+        probe = with_crc(bytes(1) + probe[1:7])
+    elif way == 2:
+        probe = bytes(1) + probe[1:]
+    elif way == 3 and fitted:
+        probe = source.choice(fitted)
+    elif way == 4:
+        probe = source.randbytes(8)
+    fitted.append(probe)
+    return 'fit', probe
+
+
+def command(source, _):
+    code = source.choice(COMMANDS)
+    if code not in PARAMETERS:
+        return write(code)
+    return write(code, source.choice(PARAMETERS[code]) if source.randrange(4) else source.randrange(256))
+
+
+def rough_write(source, _):
+    """Any number of bytes; the first is often a command."""
+    data = bytearray(source.randbytes(source.randrange(4)))
+    if data and source.randrange(3):
+        data[0] = source.choice(COMMANDS)
+    return write(*data)
+
+
+def any_event(source, fitted):
+    ways = (command, command, rough_write, lambda *_: READ, lambda *_: READ, lambda *_: WAIT, lambda *_: WAIT, fitting)
+    return source.choice(ways)(source, fitted)
+
+
+# ---- mixes
+
+
+def mixed(source):
+    """All events in any order."""
+    fitted = []
+    return [any_event(source, fitted) for _ in range(source.randrange(200))]
+
+
+def slots(source):
+    """A command of the line with what is read after it."""
+    return source.choice((
+        done(0x96) + [write(0xE1, 0xE1), READ],
+        done(0x87, source.choice((0x00, 0x80))) + [READ],
+        done(0x78, source.choice((0x00, 0x80))) + [READ],
+        done(0xA5, source.choice((0x00, 0xFF, source.randrange(256)))) + [READ],
+    ))
+
+
+def session(source, probes=None):
+    """Probes, then reset and a ROM command and slots, again and again; now and then something comes between."""
+    fitted = []
+    events = [fitting(source, fitted) for _ in range(source.randrange(7) if probes is None else probes)]
+    for _ in range(source.randrange(1, 5)):
+        events += done(0xB4) + [READ] + done(0xA5, source.choice((0x33, 0x33, 0xF0, 0xF0, 0x55, 0xCC, 0xA5)))
+        for _ in range(source.randrange(40)):
+            events += slots(source)
+            if source.randrange(12) == 0:
+                events.append(any_event(source, fitted))
+    return events
+
+
+def crowd(source):
+    """As a session, with about 64 probes."""
+    return session(source, source.randrange(60, 90))
+
+
+def search(source):
+    """Some passes of 64 triplets and more; one in four is disturbed on the way."""
+    fitted = []
+    events = [fitting(source, fitted) for _ in range(source.randrange(1, 12))]
+    for _ in range(source.randrange(1, 4)):
+        events += done(0xB4) + [READ] + done(0xA5, 0xF0)
+        for _ in range(66):
+            events += done(0x78, source.choice((0x00, 0x80))) + [READ]
+        if source.randrange(4) == 0:
+            events.insert(source.randrange(len(events)), any_event(source, fitted))
+    return events
+
+
+def long(source):
+    """A script of 4,090 to 4,097 bytes, the longest just too long."""
+    room = 8 * source.choice((source.randrange(4090, 4096), 4096, 4097)) - 16
+    events, mix = [], source.choice((mixed, session, crowd))
+    while room > 1000:
+        for event in mix(source):
+            room -= len(tool.bits_of(event))
+            if room < 0:
+                room += len(tool.bits_of(event))
+                break
+            events.append(event)
+    return events + [READ] * (room // 2)
+
+
+# ---- scripts that may be of no form
+
+
+def any_bytes(source):
+    return source.randbytes(source.choice((source.randrange(8), source.randrange(100), source.randrange(4097))))
+
+
+def with_count(script, count):
+    return (count % 65536).to_bytes(2, 'big') + script[2:]
+
+
+def flipped(source, script):
+    place = source.randrange(8 * len(script))
+    changed = bytearray(script)
+    changed[place // 8] ^= 1 << place % 8
+    return bytes(changed)
+
+
+def to_byte_end(events):
+    """The events and as many reads as leave no padding."""
+    bits = sum(len(tool.bits_of(event)) for event in events)
+    return events + [READ] * (-bits % 8 // 2)
+
+
+def mutated(source):
+    """A script of the form, with a change that may take it out of the form."""
+    events = source.choice((mixed, session, search))(source)[:source.randrange(300)]
+    script = tool.script_of(source.choice((list, to_byte_end))(events))
+    count = int.from_bytes(script[:2], 'big')
+    place = source.randrange(len(script))
+    return source.choice((
+        flipped(source, script),
+        flipped(source, flipped(source, script)),
+        script[:-1],
+        script[:place],
+        script[:place] + script[place + 1:],
+        script + bytes(1),
+        script + source.randbytes(1),
+        script[:-1] + bytes([script[-1] | 1]),
+        script[:-1] + bytes([script[-1] | 2]),
+        with_count(script, count + source.choice((1, -1, 256, -256))),
+        script[1::-1] + script[2:],
+    ))
+
+
+def packed(mix):
+    return lambda source: tool.script_of(mix(source))
+
+
+SCRIPTS = {  # how many parts of the whole each is, and how it is drawn
+    'mixed': (6, packed(mixed)),
+    'session': (5, packed(session)),
+    'crowd': (2, packed(crowd)),
+    'search': (2, packed(search)),
+    'long': (1, packed(long)),
+    'any bytes': (2, any_bytes),
+    'mutated': (6, mutated),
+}
