@@ -32,6 +32,23 @@ def built_bench():
     return ROOT / 'target/bin/bench'
 
 
+def started(*command):
+    return subprocess.Popen(command, bufsize=0, stdin=subprocess.PIPE, stdout=subprocess.PIPE, stderr=subprocess.PIPE)
+
+
+def printed(process, source=b''):
+    """What a program prints for this input; how it ended, where that is not as it should be."""
+    try:
+        out, errors = process.communicate(source, timeout=PATIENCE)
+    except subprocess.TimeoutExpired:
+        process.kill()
+        process.communicate()
+        return b'(no end in time)'
+    if process.returncode != 0 or errors:
+        return f'(exit status {process.returncode}, errors {errors!r})'.encode()
+    return out
+
+
 class Cases:
     """Counts comparisons, and shows those that fail."""
 
