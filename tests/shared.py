@@ -4,6 +4,7 @@ import importlib.util
 import subprocess
 import sys
 from importlib.machinery import SourceFileLoader
+from itertools import zip_longest
 from pathlib import Path
 
 ROOT = Path(__file__).resolve().parent.parent
@@ -49,6 +50,11 @@ def printed(process, source=b''):
     return out
 
 
+def first_difference(a, b):
+    """The first lines in which two outputs differ; None where one has ended."""
+    return next(pair for pair in zip_longest(a.splitlines(True), b.splitlines(True)) if pair[0] != pair[1])
+
+
 class Cases:
     """Counts comparisons, and shows those that fail."""
 
@@ -60,7 +66,9 @@ class Cases:
             self.passed += 1
         else:
             self.failed += 1
-            print(f'{self.name}: {what}\n  wanted {wanted[:400]!r}\n  got    {got[:400]!r}')
+            if isinstance(wanted, bytes):
+                wanted, got = first_difference(wanted, got)
+            print(f'{self.name}: {what}\n  wanted {repr(wanted)[:400]}\n  got    {repr(got)[:400]}')
 
     def end(self):
         """The last line of a test; its exit status says whether all is well."""
