@@ -12,7 +12,7 @@ ghost use lib.ListN.{getD};
 ghost use Rattle.bridge.specs.Bridge.{busy as busyOf, bytesOf, takenWhileBusy, goodParameter, writeNumber};
 
 // The byte at a place of a write, 0 behind its end.
-pub fn byte_at(bytes: &[u8], i: usize) -> u8
+pub(crate) fn byte_at(bytes: &[u8], i: usize) -> u8
     ensures { λ r. ⌜ r ≡ getD (now (bytes .entry)) i 0 ⌝ }
 {
     if i < bytes.len() { bytes[i] } else { 0 }
