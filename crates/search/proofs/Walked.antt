@@ -1,15 +1,27 @@
 -- The triplets of a pass, one after the other.
+--   tripled-by     a triplet, part by part
 --   walked-next    one triplet goes by, and one fewer is left
 --   walked-none    after bit 63 none is left
 use mathlib.Core.Path.{_≡_, sym, ap, ap₂, _∙_}
-use Prim.Native.Nat.{ℕ, suc, _+_, _-_, _<_}
+use mathlib.Core.Bool.{Bool, true, cond}
+use mathlib.Core.List.{[], _∷_}
+use Prim.Native.Nat.{ℕ, suc, _+_, _-_, _*_, _^_, _<_}
 use native.Mathlib.Numerals.{add-one}
 use native.Mathlib.Omega.{arith}
+use Rattle.probe.specs.Probe.{digit}
+use Rattle.bridge.specs.declared.Bridge.{Bridge}
+use Rattle.bridge.specs.Bridge.{command}
 use Rattle.search.specs.declared.passes.Conflict.{Conflict}
 use Rattle.search.specs.declared.passes.Walk.{Walk}
-use Rattle.search.specs.Search.{tripled, walked}
+use Rattle.search.specs.Search.{direction, noted, tripletByte, tookTriplet, tripled, walked}
 
 module _ (i : ℕ) (c : Conflict) (k : ℕ) (w : Walk) where
+  -- the bridge after the triplet shows the bit taken and the two levels
+  pub tripled-by : {b : Bridge} {j : ℕ} {q : Conflict} {s : Bool} → b ≡ command (0x78 ∷ tripletByte (direction i c k) ∷ []) (w .bridge) → j ≡ w .id + digit (b .dir) * 2 ^ k → q ≡ noted (b .sbr) (b .tsb) (b .dir) k (w .conflict) → s ≡ cond (b .sbr) (cond (b .tsb) true (w .silent)) (w .silent) → _≡_ {A = Walk} (record { bridge = b; id = j; conflict = q; silent = s }) (tripled i c k w)
+  unfolding tripled tookTriplet
+  tripled-by {b} e f g h =
+      (λ r. record { bridge = b; id = f r; conflict = g r; silent = h r }) ∙ ap (λ (v : Bridge). tookTriplet k v w) e
+
   pub walked-next : {v : Walk} → k < 64 → v ≡ tripled i c k w → walked (64 - k) k i c w ≡ walked (64 - (k + 1)) (k + 1) i c v
   unfolding walked
   walked-next {v} h e =

@@ -73,7 +73,7 @@ returns-3 c =
     let r = f .all .result in
     let within : r .count ≤ length (r .ids) = omega (arith, f .all .ensures .1, f .all .ensures .2, f .before .before .at-most .ensures) in
     let put : c .before .before .before .put .last .0 ≡ listOf (take (r .count) (r .ids)) ++ drop (8 * r .count) (a .list .now) =
-    cc (c .before .before .before .put .ensures) in
+    c .before .before .before .put .ensures in
     let o =
     done (a .b) (a .list .now) (a .bridge) (omega arith)
     (ap (λ (v : Result). v .silent) (found f) ∙ c .before .before .before .before .before .before .before .if2 .left) in (

@@ -1,5 +1,5 @@
 -- `passes::all` meets its contract: with no pass allowed nothing is done, and otherwise the Device Reset comes first.
-use mathlib.Core.Path.{_≡_, refl, sym, ap}
+use mathlib.Core.Path.{_≡_, refl, sym, ap, _∙_}
 use mathlib.Core.List.{[], _∷_}
 use Prim.Native.Nat.{ℕ, zero, suc}
 use native.Mathlib.Omega.{arith}
@@ -7,6 +7,7 @@ use Rattle.bridge.specs.declared.Bridge.{Bridge}
 use Rattle.bridge.specs.Bridge.{command}
 use Rattle.search.specs.declared.passes.Conflict.the-variants.{Nowhere}
 use Rattle.search.specs.Search.{search as searchOf, searched, exhausted}
+use Rattle.search.specs.Found.{resultOf}
 use Rattle.search.proofs.Onward.{stands}
 use borrow.Author.Needs.{needs}
 use Rattle.search.proofs.passes.all.Statement.{statement}
@@ -40,7 +41,13 @@ returns-2 : tie.Need-returns-2
 returns-2 c =
     let s = c .before .before .before .before in
     let e = c .passes .ensures in
-    (cc (some (s .args .allowed) (s .args .bridge) (c .before .before .before .if1 .left)), omega (arith, e .1), e .2)
+    let ran : resultOf (c .passes .result) ≡ searched (s .args .allowed) 0 Nowhere (c .before .command .result) = e .0 in (
+      ran
+          ∙ ap (searched (s .args .allowed) 0 Nowhere) (c .before .command .ensures)
+          ∙ some (s .args .allowed) (s .args .bridge) (c .before .before .before .if1 .left),
+      omega (arith, e .1),
+      e .2,
+    )
 
 pub all-spec : {M : Type 1} → statement M
 all-spec =

@@ -1,4 +1,5 @@
 -- `passes::direction` meets its contract: by where the last conflict was, and on which side of it bit k lies.
+use native.Mathlib.Omega.{arith}
 use borrow.Author.Tests.{lt-ltb, le-ltb}
 use Rattle.search.specs.Search.{direction}
 use borrow.Author.Needs.{needs}
@@ -20,11 +21,15 @@ returns c = simp (c .enum-told .given .1)
 
 returns-2 : tie.Need-returns-2
 unfolding direction
-returns-2 c = simp (c .before .before .before .conflict .given .1, lt-ltb _ _ (c .before .if1 .taken)) (c .bit .ensures)
+returns-2 c =
+    let v = c .before .before .before in
+    simp (v .conflict .given .1, lt-ltb (v .before .before .args .k) (v .conflict .given .0 .0) (omega arith)) (c .bit .ensures)
 
 returns-3 : tie.Need-returns-3
 unfolding direction
-returns-3 c = simp (c .before .before .conflict .given .1, le-ltb _ _ (c .if1 .left))
+returns-3 c =
+    let v = c .before .before in
+    simp (v .conflict .given .1, le-ltb (v .before .before .args .k) (v .conflict .given .0 .0) (omega arith))
 
 pub direction-spec : {M : Type 1} → statement M
 direction-spec =

@@ -1,5 +1,7 @@
 -- `passes::pass` meets its contract: Search ROM is written, and the triplets follow.
-use Rattle.search.specs.Search.{passed}
+use mathlib.Core.Path.{ap, _∙_}
+use Rattle.bridge.specs.declared.Bridge.{Bridge}
+use Rattle.search.specs.Search.{begun, walked, passed}
 use borrow.Author.Needs.{needs}
 use Rattle.search.proofs.passes.pass.Statement.{statement}
 use Rattle.search.proofs.passes.pass.Tie as tie
@@ -15,7 +17,9 @@ triplets-requires c κs = search needs
 
 returns : tie.Need-returns
 unfolding passed
-returns c = cc
+returns c =
+    let a = c .before .before .before .args in
+    c .triplets .ensures ∙ ap (λ (b : Bridge). walked 64 0 (a .previous) (a .before) (begun b)) (c .before .command .ensures)
 
 pub pass-spec : {M : Type 1} → statement M
 pass-spec = tie.close (tie.spec slice-aggregate-command command-requires triplets-requires returns)

@@ -1,10 +1,13 @@
 -- `passes::triplets` meets its contract: what is left of the walk is the triplets from bit k on.
-use mathlib.Core.Path.{_≡_, refl, sym, _∙_}
-use Prim.Native.Nat.{_^_, _<_, _≤_, _-_}
+use mathlib.Core.Path.{_≡_, refl, sym, ap, _∙_}
+use mathlib.Core.List.{[], _∷_}
+use Prim.Native.Nat.{ℕ, _^_, _<_, _≤_, _-_}
 use native.Mathlib.Omega.{arith}
 use lib.Dec.{lit<}
-use Rattle.search.specs.Search.{walked, begun, tripled, tookTriplet}
-use Rattle.search.proofs.Walked.{walked-next, walked-none}
+use Rattle.bridge.specs.Bridge.{command}
+use Rattle.search.specs.declared.passes.Walk.{Walk}
+use Rattle.search.specs.Search.{walked, begun, tripletByte}
+use Rattle.search.proofs.Walked.{tripled-by, walked-next, walked-none}
 use borrow.Author.Needs.{needs}
 use Rattle.search.proofs.passes.triplets.Statement.{statement}
 use Rattle.search.proofs.passes.triplets.Tie as tie
@@ -49,10 +52,21 @@ loop-less : tie.Need-loop-less Inv-loop μ-loop
 loop-less c = omega arith
 
 loop-again : tie.Need-loop-again Inv-loop μ-loop
-unfolding tripled tookTriplet
 loop-again c =
-    let l = c .before .before .before .before .before .before .before .before .loop in
-    (omega arith, c .before .before .with-bit .ensures .1, l .inv .2 ∙ walked-next _ _ _ _ (omega arith) (cc))
+    let b = c .before .before .before in
+    let t = b .before .before in
+    let s = t .before .before .before in
+    let l = s .loop in
+    let w : Walk = record { bridge = l .bridge; id = l .id; conflict = l .conflict; silent = l .silent } in (
+      omega arith,
+      c .before .before .with-bit .ensures .1,
+      l .inv .2
+          ∙ walked-next _ _ _ _ (omega arith)
+          (tripled-by (s .before .args .previous) (s .before .args .before) (l .k) w
+          (b .command .ensures
+          ∙ ap (λ (x : ℕ). command (0x78 ∷ x ∷ []) (l .bridge)) (t .triplet-byte .ensures ∙ ap tripletByte (t .before .direction .ensures)))
+          (c .before .before .with-bit .ensures .0) (c .before .noted .ensures) (c .unheard .ensures)),
+    )
 
 returns : tie.Need-returns Inv-loop μ-loop
 returns c =
