@@ -15,8 +15,8 @@ use borrow.Author.Tests.{eqb-true, eq-eqb}
 use lib.Dec.{eqb, lit<}
 use lib.ListN.{length, length-append}
 use lib.Pow.{pow-pos}
-use Rattle.identity.specs.Identity.{bitOf, Before}
-use Rattle.enumeration.specs.Order.{Among, Distinct, Narrow, Rising, InOrder}
+use Rattle.identity.specs.Identity.{bitOf}
+use Rattle.enumeration.specs.Order.{Before, Among, Distinct, Narrow, Rising, InOrder}
 use Rattle.enumeration.proofs.Tree.{begins, has, child, leaves, sorted}
 use Rattle.enumeration.proofs.Bits.{child-lt, bit-child, mod-child, child-mod, begins-child, has-split}
 use Rattle.enumeration.proofs.Passes.{leaves-none}

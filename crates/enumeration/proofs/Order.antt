@@ -10,8 +10,8 @@ use mathlib.Core.Logic.{_⊎_, inl, inr, ⊎-elim}
 use Prim.Native.Nat.{ℕ, _<_}
 use native.Mathlib.Decide.{decLt}
 use native.Mathlib.Omega.{arith}
-use Rattle.identity.specs.Identity.{bitOf, Before}
-use Rattle.enumeration.specs.Order.{Among, Rising, InOrder}
+use Rattle.identity.specs.Identity.{bitOf}
+use Rattle.enumeration.specs.Order.{Before, Among, Rising, InOrder}
 
 pub before-irrefl : (i : ℕ) → Before i i → ⊥
 before-irrefl i b = true≢false (sym (b .second) ∙ b .first)

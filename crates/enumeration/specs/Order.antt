@@ -1,14 +1,24 @@
--- Lists of IDs in search order (document 01, "Probe identities").
+-- Search order, and lists of IDs in it (document 01, "Probe identities").
+--   Before i j       i comes before j in search order
 --   Among x l        x stands in l
 --   Distinct l       nothing stands twice in l
 --   Narrow l         every number of l has 64 bits at most
 --   Rising l         each ID of l comes, in search order, before all that stand behind it
 --   InOrder ids l    l is the IDs `ids`, each once, in search order
 use Prim.Native.Nat.{ℕ, _^_, _<_}
+use mathlib.Core.Bool.{true, false}
 use mathlib.Core.Path.{_≡_}
 use mathlib.Core.List.{List, [], _∷_, List·Memᴰ}
 use lib.ListN.{length}
-use Rattle.identity.specs.Identity.{Before}
+use Rattle.identity.specs.Identity.{bitOf}
+
+-- Search order: two IDs are compared at the lowest-numbered bit where they differ; the one with 0 there comes first.
+pub record Before (i j : ℕ) : Type 0 where
+  pub place : ℕ
+  pub within : place < 64
+  pub alike : (k : ℕ) → k < place → bitOf i k ≡ bitOf j k
+  pub first : bitOf i place ≡ false
+  pub second : bitOf j place ≡ true
 
 abbrev pub Among : {A : Type 0} → A → List A → Type 0
 Among x l = List·Memᴰ x l

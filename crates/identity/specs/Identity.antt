@@ -1,14 +1,12 @@
 -- Probe identities (document 01, "Probe identities" and "Numbers returned").
 --   numberOf bytes     the bytes as one number, the first byte lowest
 --   bitOf id k         bit k of an ID; bits past the last read 0
---   Before i j         i comes before j in search order
 --   crcRight bytes     the last of the eight bytes is the CRC-8 of the seven before it
 --   familyOf bytes     the family code
 --   refusalOf bytes    what is wrong with an ID by itself: 2, 3 or nothing
-use Prim.Native.Nat.{ℕ, _+_, _*_, _/_, _%_, _^_, _<_}
-use mathlib.Core.Bool.{Bool, true, false, cond}
+use Prim.Native.Nat.{ℕ, _+_, _*_, _/_, _%_, _^_}
+use mathlib.Core.Bool.{Bool, cond}
 use mathlib.Core.List.{List, [], _∷_}
-use mathlib.Core.Path.{_≡_}
 use lib.Dec.{eqb}
 use lib.ListN.{getD, take}
 use Rattle.checksum.specs.Register.{crc8Of}
@@ -20,14 +18,6 @@ numberOf (x ∷ xs) = x + 256 * numberOf xs
 
 unfoldable pub bitOf : ℕ → ℕ → Bool
 bitOf id k = eqb (id / 2 ^ k % 2) 1
-
--- Search order: two IDs are compared at the lowest-numbered bit where they differ; the one with 0 there comes first.
-pub record Before (i j : ℕ) : Type 0 where
-  pub place : ℕ
-  pub within : place < 64
-  pub alike : (k : ℕ) → k < place → bitOf i k ≡ bitOf j k
-  pub first : bitOf i place ≡ false
-  pub second : bitOf j place ≡ true
 
 -- The CRC-8 is taken over the first seven bytes.
 unfoldable pub crcRight : List ℕ → Bool

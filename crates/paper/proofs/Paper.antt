@@ -5,7 +5,8 @@ use mathlib.Core.Path.{_≡_, refl}
 use mathlib.Core.Bool.{false}
 use native.Mathlib.Omega.{arith}
 use Rattle.checksum.specs.Register.{crc8Of, crc16Of, crcFrom, entered, shifts, shifted, taps, taps8, taps16}
-use Rattle.identity.specs.Identity.{numberOf, bitOf, crcRight, familyOf, refusalOf, Before}
+use Rattle.identity.specs.Identity.{numberOf, bitOf, crcRight, familyOf, refusalOf}
+use Rattle.enumeration.specs.Order.{Before}
 use Rattle.packet.specs.declared.Reading.the-variants.{Refused}
 use Rattle.packet.specs.Request.{read, bodyOf, invertedOf, sealOf, packetOf}
 use Rattle.packet.specs.Reading.{readForm, formOf, isSealed, checked, readingOf}

@@ -8,7 +8,8 @@ use mathlib.Core.List.{List, [], _∷_}
 use mathlib.Core.Path.{_≡_}
 use lib.ListN.{take}
 use Rattle.checksum.specs.Register.{crc8Of}
-use Rattle.identity.specs.Identity.{numberOf, refusalOf, Before}
+use Rattle.identity.specs.Identity.{numberOf, refusalOf}
+use Rattle.enumeration.specs.Order.{Before}
 use Rattle.packet.specs.declared.Reading.the-variants.{Refused}
 use Rattle.packet.specs.Request.{read, packetOf}
 use Rattle.packet.specs.Reading.{readingOf}
