@@ -1,11 +1,9 @@
 -- What a search comes to, with no pass allowed, with no probe and with some. Neither distinct IDs nor a reached state is asked for.
 --   search-facts     what it comes to
 --   search-enough    as many passes as IDs, and one, do what any more do
---   search-loud      levels 1,1 come in no pass with presence
---   search-short     no more IDs are listed than the table has entries
 --   search-capped    more than 64 passes do what 64 do
 use mathlib.Core.Path.{_≡_, refl, sym, ap, ap₂, subst⁻¹, _∙_}
-use mathlib.Core.Bool.{Bool, true, false, _&&_}
+use mathlib.Core.Bool.{Bool, true, _&&_}
 use mathlib.Core.List.{List, [], _∷_}
 use Prim.Native.Nat.{ℕ, zero, suc, _<_, _≤_, min, max}
 use native.Mathlib.Nat.{zero-min, min-eq-left, min-eq-right}
@@ -142,21 +140,6 @@ module _ (b : Bridge) (table : 0 < length (b .line .probes)) where
 
   none-held : idsOf (b .line) ≡ [] → b .line .count ≡ 0
   none-held e = omega (arith, ids-length, ap length e)
-
-  -- both levels 1 come in no pass with presence
-  pub search-loud : (m : ℕ) → search m b .silent ≡ false
-  search-loud m = search-facts (idsOf (b .line)) rest-of b held none-held m .loud
-
-  -- no more IDs are listed than the table has entries
-  pub search-short : (m : ℕ) → length (search m b .ids) ≤ length (b .line .probes)
-  search-short m =
-      omega (
-        arith,
-        ap length (search-facts (idsOf (b .line)) rest-of b held none-held m .listed),
-        length-take m (sorted (idsOf (b .line))),
-        sorted-short (idsOf (b .line)),
-        ids-length,
-      )
 
   -- more passes than 64 do what 64 do
   pub search-capped : length (b .line .probes) ≤ 64 → (m : ℕ) → search m b ≡ search (min m 64) b

@@ -1,5 +1,5 @@
 -- The call's contract leaves one answer, one state and one content of the lent list for each argument.
-use mathlib.Core.Path.{_≡_, sym, ap₂, _∙_}
+use mathlib.Core.Path.{sym, ap₂, _∙_}
 use denote.Ref.{now}
 use Rattle.bridge.specs.declared.Bridge.{Bridge}
 use Rattle.checksum.proofs.Unique.{OneAnswerAnd}
