@@ -13,7 +13,7 @@ fn byte_of(id: u64, k: usize) -> u8
 }
 
 // The first IDs, at the front of the list; the bytes behind them stay.
-pub fn put(list: &mut [u8], ids: &[u64], count: usize)
+pub(crate) fn put(list: &mut [u8], ids: &[u64], count: usize)
     requires { ⌜ (count ≤ length (now ids)) × (8 * count ≤ length (now list)) ⌝ }
     ensures { λ _. ⌜ now (list .exit) ≡ listOf (take count (now (ids .entry))) ++ drop (8 * count) (now (list .entry)) ⌝ }
 {

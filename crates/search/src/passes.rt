@@ -212,7 +212,7 @@ fn passes(allowed: usize, start: Bridge) -> Found
 }
 
 // All that a search does on the bridge; nothing where no pass is allowed.
-pub fn all(allowed: usize, bridge: Bridge) -> Found
+pub(crate) fn all(allowed: usize, bridge: Bridge) -> Found
     requires { ⌜ allowed ≤ 64 ⌝ }
     ensures { λ r. ⌜ (resultOf r ≡ search allowed bridge) × (r .count ≤ allowed) × (length (r .ids) ≡ 64) ⌝ }
 {
