@@ -1,5 +1,5 @@
 /*
- * A plain model of the line in C, for the benchmark alone: it does the work of the program bridge_speed, slot by slot, with the state in
+ * A plain model of the line in C, for the benchmark alone: it does the work of the program speed, slot by slot, with the state in
  * one place and changed where it lies. It shares nothing with the library.
  */
 #include <stdint.h>
@@ -183,7 +183,7 @@ static uint64_t pass(uint64_t previous, int *conflict)
     return id;
 }
 
-static unsigned search(uint8_t *list)
+static void search(uint8_t *list)
 {
     unsigned count = 0;
     uint64_t id = 0;
@@ -195,29 +195,22 @@ static unsigned search(uint8_t *list)
             list[8 * count + k] = (uint8_t)(id >> 8 * k);
         count++;
     } while (conflict >= 0 && count < 64);
-    return count;
 }
 
-/*
- * For each letter of the input, w, r, s, p or m, 2,000 rounds of that work; then the status and the read-data byte. For f 20 full searches;
- * then how many IDs the last one listed, and the status.
- */
+/* For each letter of the input 2,000 rounds of that work, 20 full searches for f; then the status and the read-data byte. */
 int main(void)
 {
     static uint8_t list[512];
     for (unsigned i = 1; i <= 64; i++)
         fit(i);
     for (int kind = getchar(); kind != EOF; kind = getchar()) {
-        unsigned count = 0;
-        if (kind == 'f') {
-            for (int i = 0; i < 20; i++)
-                count = search(list);
-            printf("%u %02x\n", count, status);
-        } else {
-            for (int i = 0; i < 2000; i++)
+        for (int i = 0; i < (kind == 'f' ? 20 : 2000); i++) {
+            if (kind == 'f')
+                search(list);
+            else
                 work(kind);
-            printf("%02x %02x\n", status, readout);
         }
+        printf("%02x %02x\n", status, readout);
     }
     return 0;
 }

@@ -1,13 +1,13 @@
 -- A command given its time, from a bridge with nothing pending: the write is accepted and has its effect.
---   command-deviceReset, -reset, -bit, -write, -read, -triplet    the state afterwards
+--   command-deviceReset, -reset, -write, -triplet    the state afterwards
 use mathlib.Core.Path.{_≡_, refl}
 use mathlib.Core.Bool.{Bool, true, false, cond}
 use mathlib.Core.List.{[], _∷_}
 use Prim.Native.Nat.{ℕ}
 use Rattle.bridge.specs.declared.Bridge.{Bridge}
-use Rattle.bridge.specs.declared.Pending.the-variants.{Reset, SingleBit, WriteByte, ReadByte, Triplet}
+use Rattle.bridge.specs.declared.Pending.the-variants.{Reset, WriteByte, Triplet}
 use Rattle.bridge.specs.Bridge.{busy, topBit, bytesOf, takenWhileBusy, goodParameter, writeNumber, afterWrite, obeyed, deviceReset, pended}
-use Rattle.bridge.specs.Bridge.{finishedReset, finishedBit, finishedWrite, finishedRead, finishedTriplet, finishedOf, afterTime, command}
+use Rattle.bridge.specs.Bridge.{finishedReset, finishedWrite, finishedTriplet, finishedOf, afterTime, command}
 
 -- Device Reset is taken, busy or not, and drops what is pending.
 never-held : (t : Bool) → cond t false false ≡ false
@@ -23,17 +23,9 @@ module _ (b : Bridge) (free : busy b ≡ false) where
   unfolding command afterTime finishedOf afterWrite writeNumber bytesOf goodParameter obeyed
   command-reset = simp free
 
-  pub command-bit : (x : ℕ) → command (0x87 ∷ x ∷ []) b ≡ finishedBit (topBit x) (pended (SingleBit (topBit x)) b)
-  unfolding command afterTime finishedOf afterWrite writeNumber bytesOf goodParameter obeyed
-  command-bit x = simp free
-
   pub command-write : (x : ℕ) → command (0xA5 ∷ x ∷ []) b ≡ finishedWrite x (pended (WriteByte x) b)
   unfolding command afterTime finishedOf afterWrite writeNumber bytesOf goodParameter obeyed
   command-write x = simp free
-
-  pub command-read : command (0x96 ∷ []) b ≡ finishedRead (pended ReadByte b)
-  unfolding command afterTime finishedOf afterWrite writeNumber bytesOf goodParameter obeyed
-  command-read = simp free
 
   pub command-triplet : (x : ℕ) → command (0x78 ∷ x ∷ []) b ≡ finishedTriplet (topBit x) (pended (Triplet (topBit x)) b)
   unfolding command afterTime finishedOf afterWrite writeNumber bytesOf goodParameter obeyed

@@ -4,7 +4,6 @@
 --   down-lt          and its bound
 --   seven-lt         with a byte to come there are at most seven, and room for one more
 --   numberOf-lt      n bytes make a number below 256 ^ n
---   numberOf-fits    eight bytes make a number of 64 bits
 use mathlib.Core.Path.{_≡_, sym, ap, subst}
 use mathlib.Core.List.{List, [], _∷_}
 use Prim.Native.Nat.{ℕ, suc, _+_, _*_, _-_, _^_, _<_, _≤_}
@@ -49,6 +48,3 @@ numberOf-lt (x ∷ s) byte =
     let first : x < 256 = byte 0 in
     let rest : numberOf s < 256 ^ length s = numberOf-lt s (λ k. byte (suc k)) in
     omega (arith, pow-suc 256 (length s))
-
-pub numberOf-fits : (s : List ℕ) → length s ≡ 8 → ((k : ℕ) → getD s k 0 < 256) → numberOf s < 2 ^ 64
-numberOf-fits s e byte = subst (λ (n : ℕ). numberOf s < 256 ^ n) e (numberOf-lt s byte)

@@ -1,14 +1,14 @@
--- `bridge_speed::reads_after` is safe and ends: its turns are counted.
+-- `speed::bytes_after` is safe and ends: its turns are counted.
 use borrow.Author.Needs.{needs}
 use Prim.Native.Nat.{_≤_, _-_}
-use Rattle.bridge_speed.proofs.reads_after.Statement.{statement}
-use Rattle.bridge_speed.proofs.reads_after.Tie as tie
+use Rattle.speed.proofs.bytes_after.Statement.{statement}
+use Rattle.speed.proofs.bytes_after.Tie as tie
 
 abbrev Inv-loop : tie.InvT-loop
-Inv-loop b₀ i₀ bytes b i = i ≤ 8
+Inv-loop b₀ i₀ b i = i ≤ 8
 
 abbrev μ-loop : tie.MeasureT-loop
-μ-loop b₀ i₀ bytes b i = 8 - i
+μ-loop b₀ i₀ b i = 8 - i
 
 loop-holds : tie.Need-loop-holds Inv-loop μ-loop
 loop-holds c = search needs
@@ -31,8 +31,8 @@ loop-again c = search needs
 returns : tie.Need-returns Inv-loop μ-loop
 returns c = search needs
 
-pub reads-after-spec : {M : Type 1} → statement M
-reads-after-spec =
+pub bytes-after-spec : {M : Type 1} → statement M
+bytes-after-spec =
     tie.close
     (tie.spec
     Inv-loop

@@ -1,14 +1,14 @@
--- `bridge_speed::rounds` is safe and ends: its turns are counted.
+-- `speed::rounds` is safe and ends: its turns are counted down.
 use borrow.Author.Needs.{needs}
-use Prim.Native.Nat.{_≤_, _-_}
-use Rattle.bridge_speed.proofs.rounds.Statement.{statement}
-use Rattle.bridge_speed.proofs.rounds.Tie as tie
+use Prim.Native.Nat.{_≤_}
+use Rattle.speed.proofs.rounds.Statement.{statement}
+use Rattle.speed.proofs.rounds.Tie as tie
 
 abbrev Inv-loop : tie.InvT-loop
-Inv-loop work bridge₀ i₀ bridge i = i ≤ 2000
+Inv-loop work left₀ bridge₀ left bridge = 0 ≤ left
 
 abbrev μ-loop : tie.MeasureT-loop
-μ-loop work bridge₀ i₀ bridge i = 2000 - i
+μ-loop work left₀ bridge₀ left bridge = left
 
 loop-holds : tie.Need-loop-holds Inv-loop μ-loop
 loop-holds c = search needs
@@ -16,8 +16,8 @@ loop-holds c = search needs
 round-requires : tie.Need-round-requires Inv-loop μ-loop
 round-requires c κs = search needs
 
-add-i : tie.Need-add-i Inv-loop μ-loop
-add-i c = search needs
+sub-left : tie.Need-sub-left Inv-loop μ-loop
+sub-left c = search needs
 
 loop-less : tie.Need-loop-less Inv-loop μ-loop
 loop-less c = search needs
@@ -31,4 +31,4 @@ returns c = search needs
 pub rounds-spec : {M : Type 1} → statement M
 rounds-spec =
     tie.close
-    (tie.spec Inv-loop μ-loop loop-holds round-requires add-i loop-less loop-again returns)
+    (tie.spec Inv-loop μ-loop loop-holds round-requires sub-left loop-less loop-again returns)

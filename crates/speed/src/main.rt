@@ -1,9 +1,11 @@
-// Work for the benchmark (bench/wire): 64 probes, and for each letter of the input 2,000 rounds of that work, each command given its time.
+// Work for the benchmark (bench/wire): 64 probes, and for each letter of the input 2,000 rounds of that work, each command given its time;
+// 20 rounds of f.
 //   w   1-Wire Reset, Search ROM and eight more bytes written
 //   r   1-Wire Reset, Read ROM and eight bytes read: every probe sends in every slot
 //   s   1-Wire Reset, Search ROM and 64 triplets: a whole pass of a search
 //   p   1-Wire Reset, Read ROM and eight bytes written: every probe sends in every slot
 //   m   1-Wire Reset, Search ROM and eight bytes read
+//   f   a full search
 // After each work it prints the status and the read-data byte.
 use bridge::Bridge;
 
@@ -66,7 +68,15 @@ fn triplets_after(bridge: Bridge) -> Bridge {
     b
 }
 
+fn searched(bridge: Bridge) -> Bridge {
+    let mut list = [0u8; 512];
+    search::search(bridge, 65535, &mut list).bridge
+}
+
 fn round(bridge: Bridge, work: u8) -> Bridge {
+    if work == b'f' {
+        return searched(bridge);
+    }
     let reset = command(bridge, &[0xB4]);
     match work {
         b'w' => bytes_after(command(reset, &[0xA5, 0xF0])),
@@ -79,11 +89,11 @@ fn round(bridge: Bridge, work: u8) -> Bridge {
 }
 
 fn rounds(before: Bridge, work: u8) -> Bridge {
+    let mut left: u32 = if work == b'f' { 20 } else { 2000 };
     let mut bridge = before;
-    let mut i: u32 = 0;
-    while i < 2000 {
+    while 0 < left {
         bridge = round(bridge, work);
-        i += 1;
+        left -= 1;
     }
     bridge
 }
@@ -98,7 +108,7 @@ fn shown(bridge: Bridge) {
 }
 
 fn main() {
-    let mut works = [0; 5];
+    let mut works = [0; 6];
     let n = io::read_full(0, &mut works);
     let mut bridge = with_64();
     let mut i = 0;

@@ -1,8 +1,8 @@
--- `bridge_speed::main` is safe and ends: its turns are counted.
+-- `speed::main` is safe and ends: its turns are counted.
 use borrow.Author.Needs.{needs}
 use Prim.Native.Nat.{_≤_, _-_}
-use Rattle.bridge_speed.proofs.main.Statement.{statement}
-use Rattle.bridge_speed.proofs.main.Tie as tie
+use Rattle.speed.proofs.main.Statement.{statement}
+use Rattle.speed.proofs.main.Tie as tie
 
 abbrev Inv-loop : tie.InvT-loop
 Inv-loop works n bridge₀ i₀ bridge i = i ≤ n
