@@ -202,8 +202,8 @@ impl Probe {
         }
     }
 
-    // The third slot of a search bit.
-    fn took_third(self, bit: u8, level: bool) -> Probe
+    // The third slot of a search bit, for a probe that searches.
+    pub fn took_third(self, bit: u8, level: bool) -> Probe
         ensures { λ r. ⌜ r ≡ tookSearching bit Slot.Third level self ⌝ }
     {
         if self.agrees(level, bit) {

@@ -1,6 +1,6 @@
 -- The slots of a triplet.
 --   rests-sends, rests-sends-two, tookThree-rests     a probe that rests sends nothing and is not changed
---   searching-sends, searching-two                    a searching probe goes through its first two slots whatever the levels
+--   searching-sends, searching-two, -three            a searching probe goes through its first two slots whatever the levels
 --   second-level, second-slot                         the level of a second write-one slot, and the line after it
 --   slot-onFitted                                     one slot more, after something was done to each probe
 use mathlib.Core.Path.{_≡_, ap, _∙_}
@@ -36,6 +36,10 @@ searching-sends k b p e = ap (λ (c : Condition). sends (tookIn c b p)) e
 pub searching-two : (k : ℕ) (a b : Bool) (p : Probe) → p .condition ≡ Searching k First → tookTwo a b p ≡ inCondition p (Searching k Third)
 unfolding took tookIn tookSearching
 searching-two k a b p e = ap (λ (c : Condition). took b (tookIn c a p)) e
+
+pub searching-three : (k : ℕ) (a b c : Bool) (p : Probe) → p .condition ≡ Searching k First → tookThree a b c p ≡ tookSearching k Third c p
+unfolding took tookIn tookSearching
+searching-three k a b c p e = ap (took c) (searching-two k a b p e)
 
 pub second-level : (l : Line) → level true (slot true l) ≡ all (sendsAfter (level true l)) (fitted l)
 unfolding level slot

@@ -65,10 +65,18 @@ fn sends_after_two(p: Probe, first: bool, second: bool) -> bool
     }
 }
 
+// The probe after three slots. A searching probe that was in the first takes the third level alone.
 fn took_three(p: Probe, first: bool, second: bool, third: bool) -> Probe
     ensures { λ r. ⌜ r ≡ tookThree first second third p ⌝ }
 {
-    took_two(p, first, second).took(third)
+    let condition = p.condition;
+    match condition {
+        Condition::Searching { bit, slot } => match slot {
+            Slot::First => p.took_third(bit, third),
+            _ => took_two(p, first, second).took(third),
+        },
+        _ => took_two(p, first, second).took(third),
+    }
 }
 
 // No probe sends 0 in the slot after one of this level.
