@@ -44,7 +44,10 @@ fn pair_at(script: &[u8], place: usize) -> u32
     ensures { λ r. ⌜ Pair (now (script .entry)) (place / 8) r ⌝ }
 {
     let i = place / 8;
-    byte_at(script, i) * 256 + byte_at(script, i + 1)
+    if i + 1 < script.len() {
+        return (script[i] as u32) * 256 + script[i + 1] as u32;
+    }
+    byte_at(script, i) * 256
 }
 
 fn at_most_widest(n: u32) -> u32

@@ -1,0 +1,79 @@
+-- `script::pair_at` meets its contract: both bytes are there, or the second lies past the end and reads 0.
+use mathlib.Core.Path.{_≡_, refl, sym, ap₂, _∙_}
+use Prim.Native.Nat.{ℕ, _+_, _*_, _/_}
+use native.Mathlib.Nat.{add-zero}
+use native.Mathlib.Omega.{arith}
+use lib.ListN.{getD, List·getD-eq-default}
+use borrow.Author.Needs.{needs}
+use Rattle.script.proofs.pair_at.Statement.{statement}
+use Rattle.script.proofs.pair_at.Tie as tie
+
+add-if1 : tie.Need-add-if1
+add-if1 c = search needs
+
+shared-slice-read-result : tie.Need-shared-slice-read-result
+shared-slice-read-result c = search needs
+
+cast-result : tie.Need-cast-result
+cast-result c = omega (arith, c .shared-slice-known2 .given (c .before .before .before .args .place / 8))
+
+mul-result : tie.Need-mul-result
+mul-result c = omega (arith, c .shared-slice-known2 .given (c .before .before .before .args .place / 8))
+
+add-result : tie.Need-add-result
+add-result c = search needs
+
+shared-slice-read-result-2 : tie.Need-shared-slice-read-result-2
+shared-slice-read-result-2 c = search needs
+
+cast-result-2 : tie.Need-cast-result-2
+cast-result-2 c =
+    omega (arith, c .shared-slice-known3 .given (c .before .before .before .before .args .place / 8 + 1))
+
+add-result-2 : tie.Need-add-result-2
+add-result-2 c =
+    let i = c .before .before .before .before .args .place / 8 in
+    omega (arith, c .shared-slice-known3 .given i, c .shared-slice-known3 .given (i + 1))
+
+returns : tie.Need-returns
+returns c =
+    let i = c .before .before .before .before .args .place / 8 in
+    record {
+      value = refl;
+      second = omega (arith, c .shared-slice-known3 .given (i + 1));
+      fits = omega (arith, c .shared-slice-known3 .given i, c .shared-slice-known3 .given (i + 1));
+    }
+
+byte-at-requires : tie.Need-byte-at-requires
+byte-at-requires c κs = search needs
+
+mul-result-2 : tie.Need-mul-result-2
+mul-result-2 c = search needs
+
+returns-2 : tie.Need-returns-2
+returns-2 c =
+    let s = c .before .before .before .args .script .now in
+    let i = c .before .before .before .args .place / 8 in
+    let past : 0 ≡ getD s (i + 1) 0 = sym (List·getD-eq-default s 0 (c .before .if1 .left)) in
+    record {
+      value = sym (add-zero (c .byte-at .result * 256)) ∙ ap₂ (λ (x y : ℕ). x * 256 + y) (c .byte-at .ensures .0) past;
+      second = omega arith;
+      fits = omega arith;
+    }
+
+pub pair-at-spec : {M : Type 1} → statement M
+pair-at-spec =
+    tie.close
+    (tie.spec
+    add-if1
+    shared-slice-read-result
+    cast-result
+    mul-result
+    add-result
+    shared-slice-read-result-2
+    cast-result-2
+    add-result-2
+    returns
+    byte-at-requires
+    mul-result-2
+    returns-2)
