@@ -1,5 +1,6 @@
 -- The run of a script, event by event.
 --   step-write, -read, -wait, -fit       what an event of each kind gives
+--   afterTime-idle                       time passing with nothing pending changes nothing
 --   lineOf-text                          its line
 --   transcriptOf-run, -refusal           what is printed for a script and for any other bytes
 --   writeNumber-lt, fitNumber-lt         the numbers printed have one digit
@@ -18,8 +19,10 @@ use borrow.Author.Tests.{ne-eqb}
 use Rattle.identity.specs.Identity.{numberOf, refusalOf, crcRight, familyOf}
 use Rattle.line.specs.declared.Line.{Line}
 use Rattle.line.specs.Line.{isFitted, placeNumber, fitNumber}
+use Rattle.bridge.specs.declared.Pending.{Pending}
+use Rattle.bridge.specs.declared.Pending.the-variants.{Nothing}
 use Rattle.bridge.specs.declared.Bridge.{Bridge}
-use Rattle.bridge.specs.Bridge.{powerOn, readOf, afterWrite, afterTime, afterFitting, busy, bytesOf, takenWhileBusy, goodParameter, writeNumber}
+use Rattle.bridge.specs.Bridge.{powerOn, readOf, afterWrite, afterTime, finishedOf, afterFitting, busy, bytesOf, takenWhileBusy, goodParameter, writeNumber}
 use Rattle.script.specs.Script.{bytesAt, countOf, isScript, kindAt, lengthAt, sizeAt}
 use Rattle.transcript.specs.Text.{Put, headOf, lineText}
 use Rattle.transcript.specs.Transcript.{decimal, hexadecimal, Step, writeStep, readStep, waitStep, fitStep, stepAt, lineOf, linesFrom, transcriptOf}
@@ -46,6 +49,10 @@ module _ (s : List ℕ) (k : ℕ) (b : Bridge) where
   step-fit x after w r t number state =
       simp (ne-eqb (kindAt s k) 0 w, ne-eqb (kindAt s k) 1 r, ne-eqb (kindAt s k) 2 t)
       (ap₂ (λ (y : ℕ) (z : Bridge). record { letter = 0x46; value = decimal y; bridge = z }) (sym number) (sym state))
+
+pub afterTime-idle : (b : Bridge) → b .pending ≡ Nothing → b ≡ afterTime b
+unfolding afterTime finishedOf
+afterTime-idle b none = ap (λ (p : Pending). finishedOf p b) (sym none)
 
 pub lineOf-text : (i : ℕ) (t : Step) → lineText i (t .letter) (t .value) ≡ lineOf i t
 unfolding lineOf lineText headOf

@@ -8,6 +8,7 @@ mod text;
 
 use bridge::Answer;
 use bridge::Bridge;
+use bridge::Pending;
 ghost use mathlib.Core.List.{_++_};
 ghost use mathlib.Core.Path.{_≡_};
 ghost use mathlib.Core.Bool.{true};
@@ -84,7 +85,10 @@ fn run(script: &[u8], out: &mut [u8]) -> usize
             }
             script::WAIT => {
                 at = text::put_number_line(out, at, done, b'T', 0);
-                bridge = bridge.wait();
+                let pending = bridge.pending;
+                if let Pending::Nothing = pending {} else {
+                    bridge = bridge.wait();
+                }
             }
             _ => {
                 let answer = fitted(script, here, bridge);

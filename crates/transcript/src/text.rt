@@ -26,19 +26,19 @@ fn put_decimal(out: &mut [u8], at: usize, n: u16) -> usize
     ensures { λ r. ⌜ Put (now (out .entry)) (now (out .exit)) at r (decimal n) ⌝ }
     ensures { λ r. ⌜ r ≤ at + 5 ⌝ }
 {
-    if n < 10 {
-        return put_digits(out, at, n, 1);
+    if 10000 <= n {
+        return put_digits(out, at, n, 5);
     }
-    if n < 100 {
-        return put_digits(out, at, n, 2);
-    }
-    if n < 1000 {
-        return put_digits(out, at, n, 3);
-    }
-    if n < 10000 {
+    if 1000 <= n {
         return put_digits(out, at, n, 4);
     }
-    put_digits(out, at, n, 5)
+    if 100 <= n {
+        return put_digits(out, at, n, 3);
+    }
+    if 10 <= n {
+        return put_digits(out, at, n, 2);
+    }
+    put_digits(out, at, n, 1)
 }
 
 fn put_head(out: &mut [u8], at: usize, number: u16, letter: u8) -> usize

@@ -3,13 +3,14 @@ use mathlib.Core.List.{List}
 use mathlib.Core.Path.{_≡_, refl, sym, ap, ap₂, _∙_}
 use Prim.Native.Nat.{ℕ, _+_, _-_, _/_, _%_, _≤_, _<_}
 use native.Mathlib.Omega.{arith}
+use borrow.Author.Needs.{needs}
 use Rattle.script.specs.Script.{numberAt, kindAt, lengthAt, sizeFor, sizeAt, bytesAt}
 use Rattle.script.proofs.Events.{kindAt-head, lengthAt-head, sizeAt-head, sizeFor-high, countOf-most}
 use Rattle.transcript.specs.Text.{Put, lineText}
 use Rattle.transcript.specs.Transcript.{Step, decimal, hexadecimal, stepAt, linesFrom}
 use Rattle.bridge.specs.Bridge.{powerOn}
 use Rattle.transcript.proofs.Buffer.{put-same}
-use Rattle.transcript.proofs.Events.{Runs, runs-first, runs-next, runs-last, step-write, step-read, step-wait, step-fit, writeNumber-lt, fitNumber-lt}
+use Rattle.transcript.proofs.Events.{Runs, runs-first, runs-next, runs-last, step-write, step-read, step-wait, step-fit, afterTime-idle, writeNumber-lt, fitNumber-lt}
 use Rattle.transcript.proofs.run.Statement.{statement}
 use Rattle.transcript.proofs.run.Tie as tie
 
@@ -120,19 +121,34 @@ loop-again-2 c =
 put-number-line-requires-2 : tie.Need-put-number-line-requires-2 Inv-loop μ-loop
 put-number-line-requires-2 c κs = omega arith
 
-wait-requires : tie.Need-wait-requires Inv-loop μ-loop
-wait-requires c κs = tt
+enum-told : tie.Need-enum-told Inv-loop μ-loop
+enum-told c = search needs
 
 loop-less-3 : tie.Need-loop-less-3 Inv-loop μ-loop
 loop-less-3 c = omega arith
 
 loop-again-3 : tie.Need-loop-again-3 Inv-loop μ-loop
 loop-again-3 c =
-    let p = c .before .before .before .put-number-line2 in
-    let z = c .before .before .before .before .before .before in
+    let p = c .before .before .before .before .put-number-line2 in
+    let z = c .before .before .before .before .before .before .before in
     let l = z .before .before .before .loop in
     let s = z .before .before .before .before .before .before .before .before .args .script .now in
-    let step = step-wait s (l .place) (l .bridge) (c .wait .result) (sym (kind z) ∙ c .before .before .before .before .before .match .keys3) (c .wait .ensures) in
+    let step = step-wait s (l .place) (l .bridge) (l .bridge) (sym (kind z) ∙ c .before .before .before .before .before .before .match .keys3) (afterTime-idle (l .bridge) (c .enum-told .given .1)) in
+    turn z (record { letter = 0x54; value = decimal 0; bridge = l .bridge }) (p .last .0) (p .result) step (p .ensures)
+
+wait-requires : tie.Need-wait-requires Inv-loop μ-loop
+wait-requires c κs = tt
+
+loop-less-4 : tie.Need-loop-less-4 Inv-loop μ-loop
+loop-less-4 c = omega arith
+
+loop-again-4 : tie.Need-loop-again-4 Inv-loop μ-loop
+loop-again-4 c =
+    let p = c .before .before .before .before .put-number-line2 in
+    let z = c .before .before .before .before .before .before .before in
+    let l = z .before .before .before .loop in
+    let s = z .before .before .before .before .before .before .before .before .args .script .now in
+    let step = step-wait s (l .place) (l .bridge) (c .wait .result) (sym (kind z) ∙ c .before .before .before .before .before .before .match .keys3) (c .wait .ensures) in
     turn z (record { letter = 0x54; value = decimal 0; bridge = c .wait .result }) (p .last .0) (p .result) step (p .ensures)
 
 fitted-requires : tie.Need-fitted-requires Inv-loop μ-loop
@@ -144,11 +160,11 @@ put-number-line-requires-3 c κs =
     let s = c .before .before .before .before .before .before .before .before .before .before .before .args .script .now in
     (omega arith, omega (arith, c .before .fitted .ensures .0, fitNumber-lt (bytesAt s (l .place + 2) 8) (l .bridge .line)))
 
-loop-less-4 : tie.Need-loop-less-4 Inv-loop μ-loop
-loop-less-4 c = omega arith
+loop-less-5 : tie.Need-loop-less-5 Inv-loop μ-loop
+loop-less-5 c = omega arith
 
-loop-again-4 : tie.Need-loop-again-4 Inv-loop μ-loop
-loop-again-4 c =
+loop-again-5 : tie.Need-loop-again-5 Inv-loop μ-loop
+loop-again-5 c =
     let p = c .before .before .before .put-number-line3 in
     let f = c .before .before .before .before .before .fitted in
     let m = c .before .before .before .before .before .before .match in
@@ -195,12 +211,15 @@ run-spec =
     loop-less-2
     loop-again-2
     put-number-line-requires-2
-    wait-requires
+    enum-told
     loop-less-3
     loop-again-3
-    fitted-requires
-    put-number-line-requires-3
+    wait-requires
     loop-less-4
     loop-again-4
+    fitted-requires
+    put-number-line-requires-3
+    loop-less-5
+    loop-again-5
     same-length
     returns)

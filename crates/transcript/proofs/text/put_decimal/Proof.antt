@@ -25,7 +25,7 @@ narrow {d} {e} {k} {r} w n p same =
 returns : tie.Need-returns
 returns c =
     let n = c .before .before .before .before .before .before .args .n in
-    narrow 1 n (c .before .before .put-digits .ensures) (digits-one 4 (n) (omega arith))
+    narrow 5 n (c .before .before .put-digits .ensures) (digits-more 4 4 (n) (omega arith) (digits-more 3 3 (n / 10) (omega arith) (digits-more 2 2 (n / 10 / 10) (omega arith) (digits-more 1 1 (n / 10 / 10 / 10) (omega arith) (digits-one 0 (n / 10 / 10 / 10 / 10) (omega arith))))))
 
 put-digits-requires-2 : tie.Need-put-digits-requires-2
 put-digits-requires-2 c κs = search needs
@@ -36,7 +36,7 @@ same-length-2 c = search needs
 returns-2 : tie.Need-returns-2
 returns-2 c =
     let n = c .before .before .before .before .before .before .before .args .n in
-    narrow 2 n (c .before .before .put-digits2 .ensures) (digits-more 4 1 (n) (omega arith) (digits-one 3 (n / 10) (omega arith)))
+    narrow 4 n (c .before .before .put-digits2 .ensures) (digits-more 4 3 (n) (omega arith) (digits-more 3 2 (n / 10) (omega arith) (digits-more 2 1 (n / 10 / 10) (omega arith) (digits-one 1 (n / 10 / 10 / 10) (omega arith)))))
 
 put-digits-requires-3 : tie.Need-put-digits-requires-3
 put-digits-requires-3 c κs = search needs
@@ -58,7 +58,7 @@ same-length-4 c = search needs
 returns-4 : tie.Need-returns-4
 returns-4 c =
     let n = c .before .before .before .before .before .before .before .before .before .args .n in
-    narrow 4 n (c .before .before .put-digits4 .ensures) (digits-more 4 3 (n) (omega arith) (digits-more 3 2 (n / 10) (omega arith) (digits-more 2 1 (n / 10 / 10) (omega arith) (digits-one 1 (n / 10 / 10 / 10) (omega arith)))))
+    narrow 2 n (c .before .before .put-digits4 .ensures) (digits-more 4 1 (n) (omega arith) (digits-one 3 (n / 10) (omega arith)))
 
 put-digits-requires-5 : tie.Need-put-digits-requires-5
 put-digits-requires-5 c κs = search needs
@@ -69,7 +69,7 @@ same-length-5 c = search needs
 returns-5 : tie.Need-returns-5
 returns-5 c =
     let n = c .before .before .before .before .before .before .before .before .before .args .n in
-    narrow 5 n (c .before .before .put-digits5 .ensures) (digits-more 4 4 (n) (omega arith) (digits-more 3 3 (n / 10) (omega arith) (digits-more 2 2 (n / 10 / 10) (omega arith) (digits-more 1 1 (n / 10 / 10 / 10) (omega arith) (digits-one 0 (n / 10 / 10 / 10 / 10) (omega arith))))))
+    narrow 1 n (c .before .before .put-digits5 .ensures) (digits-one 4 (n) (omega arith))
 
 pub put-decimal-spec : {M : Type 1} → statement M
 put-decimal-spec =
