@@ -8,7 +8,7 @@
 --   runs-first, runs-next, runs-last     where no event has run, one event more, and where all have
 use mathlib.Core.Path.{_≡_, refl, sym, ap, ap₂, _∙_}
 use mathlib.Core.Bool.{Bool, true, false, cond}
-use mathlib.Core.List.{List, [], _∷_, _++_}
+use mathlib.Core.List.{List, [], _∷_, _++_, append-assoc}
 use Prim.Native.Nat.{ℕ, zero, suc, _+_, _-_, _*_, _<_, _≤_}
 use native.Mathlib.Numerals.{add-one}
 use native.Mathlib.Omega.{arith}
@@ -24,7 +24,7 @@ use Rattle.bridge.specs.declared.Pending.the-variants.{Nothing}
 use Rattle.bridge.specs.declared.Bridge.{Bridge}
 use Rattle.bridge.specs.Bridge.{powerOn, readOf, afterWrite, afterTime, finishedOf, afterFitting, busy, bytesOf, takenWhileBusy, goodParameter, writeNumber}
 use Rattle.script.specs.Script.{bytesAt, countOf, isScript, kindAt, lengthAt, sizeAt}
-use Rattle.transcript.specs.Text.{Put, headOf, lineText}
+use Rattle.transcript.specs.Text.{Put, behindNumber}
 use Rattle.transcript.specs.Transcript.{decimal, hexadecimal, Step, writeStep, readStep, waitStep, fitStep, stepAt, lineOf, linesFrom, transcriptOf}
 use Rattle.transcript.proofs.Buffer.{sets-append}
 
@@ -54,9 +54,9 @@ pub afterTime-idle : (b : Bridge) → b .pending ≡ Nothing → b ≡ afterTime
 unfolding afterTime finishedOf
 afterTime-idle b none = ap (λ (p : Pending). finishedOf p b) (sym none)
 
-pub lineOf-text : (i : ℕ) (t : Step) → lineText i (t .letter) (t .value) ≡ lineOf i t
-unfolding lineOf lineText headOf
-lineOf-text i t = refl
+pub lineOf-text : (i : ℕ) (t : Step) → decimal i ++ behindNumber (t .letter) (t .value) ≡ lineOf i t
+unfolding lineOf behindNumber
+lineOf-text i t = simp append-assoc
 
 -- ---- the whole
 
@@ -126,11 +126,12 @@ runs-first s n d b h e =
     }
 
 module _ (s : List ℕ) (n : ℕ) (d e : List ℕ) (b : Bridge) (done k a : ℕ) (runs : Runs s n d e b done k a) where
-  pub runs-next : (t : Step) (f : List ℕ) (size r : ℕ) → done < n → stepAt s k b ≡ t → size ≡ sizeAt s k → size ≤ 66 → r ≤ a + 11 → Put e f a r (lineText (done + 1) (t .letter) (t .value)) → Runs s n d f (t .bridge) (done + 1) (k + size) r
+  pub runs-next : (t : Step) (f : List ℕ) (size r : ℕ) → done < n → stepAt s k b ≡ t → size ≡ sizeAt s k → size ≤ 66 → r ≤ a + 11 → Put e f a r (decimal (done + 1) ++ behindNumber (t .letter) (t .value)) → Runs s n d f (t .bridge) (done + 1) (k + size) r
   runs-next t f size r more step sized small short put =
+      let line = decimal (done + 1) ++ behindNumber (t .letter) (t .value) in
       let rest = linesFrom s (n - (done + 1)) (done + 1 + 1) (k + size) (t .bridge) in
       let left : n - done - 1 ≡ n - (done + 1) = omega arith in
-      let same : linesFrom s (n - done) (done + 1) k b ≡ lineText (done + 1) (t .letter) (t .value) ++ rest =
+      let same : linesFrom s (n - done) (done + 1) k b ≡ line ++ rest =
       linesFrom-next s (n - done) (done + 1) k b (omega arith)
       ∙ ap (λ (x : Step). lineOf (done + 1) x ++ linesFrom s (n - done - 1) (done + 1 + 1) (k + sizeAt s k) (x .bridge)) step
       ∙ ap₂ (λ (m z : ℕ). lineOf (done + 1) t ++ linesFrom s m (done + 1 + 1) (k + z) (t .bridge)) left (sym sized)
@@ -140,11 +141,11 @@ module _ (s : List ℕ) (n : ℕ) (d e : List ℕ) (b : Bridge) (done k a : ℕ)
         most = runs .most;
         near = omega (arith, runs .near);
         room = omega (arith, runs .room);
-        kept = ap length (put .content) ∙ length-sets e a (lineText (done + 1) (t .letter) (t .value)) ∙ runs .kept;
+        kept = ap length (put .content) ∙ length-sets e a line ∙ runs .kept;
         content =
             ap₂ (λ (x : List ℕ) (j : ℕ). sets x j rest) (put .content) (put .end)
-            ∙ sym (sets-append e a (lineText (done + 1) (t .letter) (t .value)) rest) ∙ ap (sets e a) (sym same) ∙ runs .content;
-        end = omega (arith, put .end, runs .end, ap length same, length-append (lineText (done + 1) (t .letter) (t .value)) rest);
+            ∙ sym (sets-append e a line rest) ∙ ap (sets e a) (sym same) ∙ runs .content;
+        end = omega (arith, put .end, runs .end, ap length same, length-append line rest);
       }
 
   pub runs-last : n ≤ done → Put d e 0 a (linesFrom s n 1 16 powerOn)

@@ -73,18 +73,19 @@ fn run(script: &[u8], out: &mut [u8]) -> usize
         let head = script::head_at(script, here);
         place += script::size_of(head);
         done += 1;
+        let next = text::put_decimal(out, at, done);
         match head / 4 {
             script::WRITE => {
                 let answer = written(script, here, (head % 4) as usize, bridge);
-                at = text::put_number_line(out, at, done, b'W', answer.number);
+                at = text::put_number(out, next, b'W', answer.number);
                 let after = answer.bridge;
                 bridge = after;
             }
             script::READ => {
-                at = text::put_byte_line(out, at, done, bridge.read());
+                at = text::put_byte(out, next, bridge.read());
             }
             script::WAIT => {
-                at = text::put_number_line(out, at, done, b'T', 0);
+                at = text::put_number(out, next, b'T', 0);
                 let pending = bridge.pending;
                 if let Pending::Nothing = pending {} else {
                     bridge = bridge.wait();
@@ -92,7 +93,7 @@ fn run(script: &[u8], out: &mut [u8]) -> usize
             }
             _ => {
                 let answer = fitted(script, here, bridge);
-                at = text::put_number_line(out, at, done, b'F', answer.number);
+                at = text::put_number(out, next, b'F', answer.number);
                 let after = answer.bridge;
                 bridge = after;
             }

@@ -6,10 +6,10 @@ use native.Mathlib.Omega.{arith}
 use borrow.Author.Needs.{needs}
 use Rattle.script.specs.Script.{numberAt, kindAt, lengthAt, sizeFor, sizeAt, bytesAt}
 use Rattle.script.proofs.Events.{kindAt-head, lengthAt-head, sizeAt-head, sizeFor-high, countOf-most}
-use Rattle.transcript.specs.Text.{Put, lineText}
+use Rattle.transcript.specs.Text.{Put, behindNumber}
 use Rattle.transcript.specs.Transcript.{Step, decimal, hexadecimal, stepAt, linesFrom}
 use Rattle.bridge.specs.Bridge.{powerOn}
-use Rattle.transcript.proofs.Buffer.{put-same}
+use Rattle.transcript.proofs.Buffer.{put-same, put-more}
 use Rattle.transcript.proofs.Events.{Runs, runs-first, runs-next, runs-last, step-write, step-read, step-wait, step-fit, afterTime-idle, writeNumber-lt, fitNumber-lt}
 use Rattle.transcript.proofs.run.Statement.{statement}
 use Rattle.transcript.proofs.run.Tie as tie
@@ -39,16 +39,20 @@ count c =
     let s = c .before .before .before .before .before .before .before .before .args .script .now in
     ap (λ (h : ℕ). h % 4) (c .before .head-at .ensures) ∙ lengthAt-head s (c .before .before .before .loop .place)
 
--- a turn, from what its event gives and the line that it puts
-turn : (c : tie.After-size-of Inv-loop μ-loop) (t : Step) (e : List ℕ) (r : ℕ) → (let l = c .before .before .before .loop in
-    let a = c .before .before .before .before .before .before .before .before .args in
-    stepAt (a .script .now) (l .place) (l .bridge) ≡ t → (Put (l .out) e (l .at) r (lineText (l .done + 1) (t .letter) (t .value))) × (r ≤ l .at + 11)
-    → Runs (a .script .now) (c .before .before .before .before .before .count-of .result) (a .out .now) e (t .bridge) (l .done + 1) (l .place + c .size-of .result) r)
+-- a turn, from what its event gives and what is put behind the event's number
+turn : (c : tie.After-slice-known2 Inv-loop μ-loop) (t : Step) (e : List ℕ) (r : ℕ) → (let z = c .before .before .before .before in
+    let d = c .before .before .put-decimal in
+    let l = z .before .before .before .loop in
+    let a = z .before .before .before .before .before .before .before .before .args in
+    stepAt (a .script .now) (l .place) (l .bridge) ≡ t → (Put (d .last .0) e (d .result) r (behindNumber (t .letter) (t .value))) × (r ≤ d .result + 6)
+    → Runs (a .script .now) (z .before .before .before .before .before .count-of .result) (a .out .now) e (t .bridge) (l .done + 1) (l .place + z .size-of .result) r)
 turn c t e r step put =
-    let l = c .before .before .before .loop in
-    let a = c .before .before .before .before .before .before .before .before .args in
-    runs-next (a .script .now) (c .before .before .before .before .before .count-of .result) (a .out .now) (l .out) (l .bridge) (l .done) (l .place) (l .at) (l .inv) t e (c .size-of .result) r
-    (c .before .before .loop-test .taken) step (sized c) (small c) (put .1) (put .0)
+    let z = c .before .before .before .before in
+    let d = c .before .before .put-decimal in
+    let l = z .before .before .before .loop in
+    let a = z .before .before .before .before .before .before .before .before .args in
+    runs-next (a .script .now) (z .before .before .before .before .before .count-of .result) (a .out .now) (l .out) (l .bridge) (l .done) (l .place) (l .at) (l .inv) t e (z .size-of .result) r
+    (z .before .before .loop-test .taken) step (sized z) (small z) (omega (arith, put .1, d .ensures .1)) (put-more (d .ensures .0) (put .0))
 
 count-of-requires : tie.Need-count-of-requires Inv-loop μ-loop
 count-of-requires c κs = tt
@@ -74,52 +78,57 @@ add-place c = omega (arith, small c)
 add-done : tie.Need-add-done Inv-loop μ-loop
 add-done c = omega arith
 
+put-decimal-requires : tie.Need-put-decimal-requires Inv-loop μ-loop
+put-decimal-requires c κs = omega arith
+
 cast-written : tie.Need-cast-written Inv-loop μ-loop
 cast-written c = omega arith
 
 written-requires : tie.Need-written-requires Inv-loop μ-loop
 written-requires c κs = omega arith
 
-put-number-line-requires : tie.Need-put-number-line-requires Inv-loop μ-loop
-put-number-line-requires c κs =
-    let l = c .before .before .before .before .before .before .loop in
-    let s = c .before .before .before .before .before .before .before .before .before .before .before .args .script .now in
-    (omega arith, omega (arith, c .before .written .ensures .0, writeNumber-lt (bytesAt s (l .place + 4) (c .before .before .before .before .head-at .result % 4)) (l .bridge)))
+put-number-requires : tie.Need-put-number-requires Inv-loop μ-loop
+put-number-requires c κs =
+    let l = c .before .before .before .before .before .before .before .before .before .before .loop in
+    let s = c .before .before .before .before .before .before .before .before .before .before .before .before .before .before .before .args .script .now in
+    (omega arith, omega (arith, c .before .written .ensures .0, writeNumber-lt (bytesAt s (l .place + 4) (c .before .before .before .before .before .before .before .before .head-at .result % 4)) (l .bridge)))
 
 loop-less : tie.Need-loop-less Inv-loop μ-loop
 loop-less c = omega arith
 
 loop-again : tie.Need-loop-again Inv-loop μ-loop
 loop-again c =
-    let p = c .before .before .before .put-number-line in
+    let p = c .before .before .before .put-number in
     let w = c .before .before .before .before .before .written in
-    let z = c .before .before .before .before .before .before .before in
+    let y = c .before .before .before .before .before .before .before in
+    let z = y .before .before .before .before in
     let l = z .before .before .before .loop in
     let s = z .before .before .before .before .before .before .before .before .args .script .now in
     let step = step-write s (l .place) (l .bridge) (z .before .head-at .result % 4) (w .result .number) (w .result .bridge)
     (sym (kind z) ∙ c .before .before .before .before .before .before .match .keys1) (count z) (w .ensures .0) (w .ensures .1) in
-    turn z (record { letter = 0x57; value = decimal (w .result .number); bridge = w .result .bridge }) (p .last .0) (p .result) step (p .ensures)
+    turn y (record { letter = 0x57; value = decimal (w .result .number); bridge = w .result .bridge }) (p .last .0) (p .result) step (p .ensures)
 
 read-requires : tie.Need-read-requires Inv-loop μ-loop
 read-requires c κs = tt
 
-put-byte-line-requires : tie.Need-put-byte-line-requires Inv-loop μ-loop
-put-byte-line-requires c κs = omega arith
+put-byte-requires : tie.Need-put-byte-requires Inv-loop μ-loop
+put-byte-requires c κs = omega arith
 
 loop-less-2 : tie.Need-loop-less-2 Inv-loop μ-loop
 loop-less-2 c = omega arith
 
 loop-again-2 : tie.Need-loop-again-2 Inv-loop μ-loop
 loop-again-2 c =
-    let p = c .before .before .put-byte-line in
-    let z = c .before .before .before .before .before .before in
+    let p = c .before .before .put-byte in
+    let y = c .before .before .before .before .before .before in
+    let z = y .before .before .before .before in
     let l = z .before .before .before .loop in
     let s = z .before .before .before .before .before .before .before .before .args .script .now in
     let step = step-read s (l .place) (l .bridge) (c .before .before .before .read .result) (sym (kind z) ∙ c .before .before .before .before .before .match .keys2) (c .before .before .before .read .ensures) in
-    turn z (record { letter = 0x52; value = hexadecimal (c .before .before .before .read .result); bridge = l .bridge }) (p .last .0) (p .result) step (p .ensures)
+    turn y (record { letter = 0x52; value = hexadecimal (c .before .before .before .read .result); bridge = l .bridge }) (p .last .0) (p .result) step (p .ensures)
 
-put-number-line-requires-2 : tie.Need-put-number-line-requires-2 Inv-loop μ-loop
-put-number-line-requires-2 c κs = omega arith
+put-number-requires-2 : tie.Need-put-number-requires-2 Inv-loop μ-loop
+put-number-requires-2 c κs = omega arith
 
 enum-told : tie.Need-enum-told Inv-loop μ-loop
 enum-told c = search needs
@@ -129,12 +138,13 @@ loop-less-3 c = omega arith
 
 loop-again-3 : tie.Need-loop-again-3 Inv-loop μ-loop
 loop-again-3 c =
-    let p = c .before .before .before .before .put-number-line2 in
-    let z = c .before .before .before .before .before .before .before in
+    let p = c .before .before .before .before .put-number2 in
+    let y = c .before .before .before .before .before .before .before in
+    let z = y .before .before .before .before in
     let l = z .before .before .before .loop in
     let s = z .before .before .before .before .before .before .before .before .args .script .now in
     let step = step-wait s (l .place) (l .bridge) (l .bridge) (sym (kind z) ∙ c .before .before .before .before .before .before .match .keys3) (afterTime-idle (l .bridge) (c .enum-told .given .1)) in
-    turn z (record { letter = 0x54; value = decimal 0; bridge = l .bridge }) (p .last .0) (p .result) step (p .ensures)
+    turn y (record { letter = 0x54; value = decimal 0; bridge = l .bridge }) (p .last .0) (p .result) step (p .ensures)
 
 wait-requires : tie.Need-wait-requires Inv-loop μ-loop
 wait-requires c κs = tt
@@ -144,20 +154,21 @@ loop-less-4 c = omega arith
 
 loop-again-4 : tie.Need-loop-again-4 Inv-loop μ-loop
 loop-again-4 c =
-    let p = c .before .before .before .before .put-number-line2 in
-    let z = c .before .before .before .before .before .before .before in
+    let p = c .before .before .before .before .put-number2 in
+    let y = c .before .before .before .before .before .before .before in
+    let z = y .before .before .before .before in
     let l = z .before .before .before .loop in
     let s = z .before .before .before .before .before .before .before .before .args .script .now in
     let step = step-wait s (l .place) (l .bridge) (c .wait .result) (sym (kind z) ∙ c .before .before .before .before .before .before .match .keys3) (c .wait .ensures) in
-    turn z (record { letter = 0x54; value = decimal 0; bridge = c .wait .result }) (p .last .0) (p .result) step (p .ensures)
+    turn y (record { letter = 0x54; value = decimal 0; bridge = c .wait .result }) (p .last .0) (p .result) step (p .ensures)
 
 fitted-requires : tie.Need-fitted-requires Inv-loop μ-loop
 fitted-requires c κs = omega arith
 
-put-number-line-requires-3 : tie.Need-put-number-line-requires-3 Inv-loop μ-loop
-put-number-line-requires-3 c κs =
-    let l = c .before .before .before .before .before .before .loop in
-    let s = c .before .before .before .before .before .before .before .before .before .before .before .args .script .now in
+put-number-requires-3 : tie.Need-put-number-requires-3 Inv-loop μ-loop
+put-number-requires-3 c κs =
+    let l = c .before .before .before .before .before .before .before .before .before .before .loop in
+    let s = c .before .before .before .before .before .before .before .before .before .before .before .before .before .before .before .args .script .now in
     (omega arith, omega (arith, c .before .fitted .ensures .0, fitNumber-lt (bytesAt s (l .place + 2) 8) (l .bridge .line)))
 
 loop-less-5 : tie.Need-loop-less-5 Inv-loop μ-loop
@@ -165,15 +176,16 @@ loop-less-5 c = omega arith
 
 loop-again-5 : tie.Need-loop-again-5 Inv-loop μ-loop
 loop-again-5 c =
-    let p = c .before .before .before .put-number-line3 in
+    let p = c .before .before .before .put-number3 in
     let f = c .before .before .before .before .before .fitted in
     let m = c .before .before .before .before .before .before .match in
-    let z = c .before .before .before .before .before .before .before in
+    let y = c .before .before .before .before .before .before .before in
+    let z = y .before .before .before .before in
     let l = z .before .before .before .loop in
     let s = z .before .before .before .before .before .before .before .before .args .script .now in
     let step = step-fit s (l .place) (l .bridge) (f .result .number) (f .result .bridge)
     (λ h. m .rest .0 .0 .1 (kind z ∙ h)) (λ h. m .rest .0 .1 (kind z ∙ h)) (λ h. m .rest .1 (kind z ∙ h)) (f .ensures .0) (f .ensures .1) in
-    turn z (record { letter = 0x46; value = decimal (f .result .number); bridge = f .result .bridge }) (p .last .0) (p .result) step (p .ensures)
+    turn y (record { letter = 0x46; value = decimal (f .result .number); bridge = f .result .bridge }) (p .last .0) (p .result) step (p .ensures)
 
 returns : tie.Need-returns Inv-loop μ-loop
 returns c =
@@ -201,16 +213,17 @@ run-spec =
     size-of-requires
     add-place
     add-done
+    put-decimal-requires
     cast-written
     written-requires
-    put-number-line-requires
+    put-number-requires
     loop-less
     loop-again
     read-requires
-    put-byte-line-requires
+    put-byte-requires
     loop-less-2
     loop-again-2
-    put-number-line-requires-2
+    put-number-requires-2
     enum-told
     loop-less-3
     loop-again-3
@@ -218,7 +231,7 @@ run-spec =
     loop-less-4
     loop-again-4
     fitted-requires
-    put-number-line-requires-3
+    put-number-requires-3
     loop-less-5
     loop-again-5
     same-length

@@ -1,14 +1,10 @@
--- `text::put_head` meets its contract: the number, and three bytes behind it.
+-- `text::put_letter` meets its contract: three stores.
 use native.Mathlib.Omega.{arith}
 use lib.ListN.{length-set}
-use Rattle.transcript.specs.Text.{headOf}
-use Rattle.transcript.proofs.Buffer.{put-more, put-three}
+use Rattle.transcript.proofs.Buffer.{put-three}
 use borrow.Author.Needs.{needs}
-use Rattle.transcript.proofs.text.put_head.Statement.{statement}
-use Rattle.transcript.proofs.text.put_head.Tie as tie
-
-put-decimal-requires : tie.Need-put-decimal-requires
-put-decimal-requires c κs = search needs
+use Rattle.transcript.proofs.text.put_letter.Statement.{statement}
+use Rattle.transcript.proofs.text.put_letter.Tie as tie
 
 slice-write-out : tie.Need-slice-write-out
 slice-write-out c = search needs
@@ -32,17 +28,14 @@ same-length : tie.Need-same-length
 same-length c = search needs
 
 returns : tie.Need-returns
-unfolding headOf
 returns c =
-    let p = c .before .before .put-decimal in
-    let a = c .before .before .before .before .before .args in
-    (put-more (p .ensures .0) (put-three (p .last .0) (p .result) 0x20 (a .letter) 0x20), omega arith)
+    let a = c .args in
+    put-three (a .out .now) (a .at) 0x20 (a .letter) 0x20
 
-pub put-head-spec : {M : Type 1} → statement M
-put-head-spec =
+pub put-letter-spec : {M : Type 1} → statement M
+put-letter-spec =
     tie.close
     (tie.spec
-    put-decimal-requires
     slice-write-out
     add-out
     slice-write-out-2
