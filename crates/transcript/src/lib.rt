@@ -69,11 +69,11 @@ fn run(script: &[u8], out: &mut [u8]) -> usize
     let mut place = script::FIRST;
     let mut at: usize = 0;
     while done < count {
+        done += 1;
+        let next = text::put_decimal(out, at, done);
         let here = place;
         let head = script::head_at(script, here);
         place += script::size_of(head);
-        done += 1;
-        let next = text::put_decimal(out, at, done);
         match head / 4 {
             script::WRITE => {
                 let answer = written(script, here, (head % 4) as usize, bridge);
