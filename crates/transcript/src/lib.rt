@@ -57,11 +57,11 @@ fn fitted(script: &[u8], place: usize, bridge: Bridge) -> Answer
     bridge.fit(&id)
 }
 
-// The events of a well-formed script, each with its line. Each kind has its own way round the loop, so that a read moves no bridge.
+// The events of a well-formed script, each with its line. Each kind has its own way round the loop, so that a read, and a wait with
+// nothing pending, move no bridge.
 fn run(script: &[u8], out: &mut [u8]) -> usize
     requires { ⌜ (isScript (now script) ≡ true) × (180136 ≤ length (now out)) ⌝ }
-    ensures { λ r. ⌜ Put (now (out .entry)) (now (out .exit)) 0 r (linesFrom (now (script .entry)) (countOf (now (script .entry))) 1 16 powerOn) ⌝ }
-    ensures { λ r. ⌜ r ≤ 180136 ⌝ }
+    ensures { λ r. ⌜ (Put (now (out .entry)) (now (out .exit)) 0 r (linesFrom (now (script .entry)) (countOf (now (script .entry))) 1 16 powerOn)) × (r ≤ 180136) ⌝ }
 {
     let count = script::count_of(script);
     let mut bridge = Bridge::power_on();
@@ -78,24 +78,21 @@ fn run(script: &[u8], out: &mut [u8]) -> usize
             script::WRITE => {
                 let answer = written(script, here, (head % 4) as usize, bridge);
                 at = text::put_number(out, next, b'W', answer.number);
-                let after = answer.bridge;
-                bridge = after;
+                bridge = answer.bridge;
             }
-            script::READ => {
-                at = text::put_byte(out, next, bridge.read());
-            }
+            script::READ => at = text::put_byte(out, next, bridge.read()),
             script::WAIT => {
                 at = text::put_number(out, next, b'T', 0);
                 let pending = bridge.pending;
-                if let Pending::Nothing = pending {} else {
-                    bridge = bridge.wait();
+                match pending {
+                    Pending::Nothing => {}
+                    _ => bridge = bridge.wait(),
                 }
             }
             _ => {
                 let answer = fitted(script, here, bridge);
                 at = text::put_number(out, next, b'F', answer.number);
-                let after = answer.bridge;
-                bridge = after;
+                bridge = answer.bridge;
             }
         }
     }
