@@ -1,5 +1,6 @@
 -- Events by their first four bits, and the place behind them.
 --   kindAt-head, lengthAt-head, sizeAt-head     kind, byte count and size from the four bits
+--   sizeFor-write, -fit, -other                 how many bits an event of each kind takes
 --   sizeFor-low, sizeFor-high                   an event takes 2 to 66 bits
 --   endOf-next, endOf-none                      one event more, and none left
 --   endOf-low                                   each event takes two bits at least
@@ -11,7 +12,7 @@ use Prim.Native.Nat.{ℕ, zero, suc, _+_, _-_, _*_, _/_, _%_, _<_, _≤_}
 use native.Mathlib.Omega.{arith}
 use lib.Dec.{eqb, leb, ltb}
 use lib.ListN.{length}
-use borrow.Author.Tests.{leb-true}
+use borrow.Author.Tests.{leb-true, ne-eqb}
 use Rattle.script.specs.Script.{numberAt, kindAt, lengthAt, sizeFor, sizeAt, endOf, countOf, isPadded, isScript}
 use Rattle.script.proofs.Numbers.{numberAt-lt, numberAt-add}
 
@@ -30,6 +31,18 @@ unfolding sizeAt
 sizeAt-head s k = ap₂ sizeFor (kindAt-head s k) (lengthAt-head s k)
 
 -- ---- how many bits an event takes
+
+pub sizeFor-write : (kind n : ℕ) → kind ≡ 0 → 4 + 8 * n ≡ sizeFor kind n
+unfolding sizeFor
+sizeFor-write kind n h = simp h
+
+pub sizeFor-fit : (kind n : ℕ) → kind ≡ 3 → 66 ≡ sizeFor kind n
+unfolding sizeFor
+sizeFor-fit kind n h = simp h
+
+pub sizeFor-other : (kind n : ℕ) → (kind ≡ 0 → ⊥) → (kind ≡ 3 → ⊥) → 2 ≡ sizeFor kind n
+unfolding sizeFor
+sizeFor-other kind n w f = simp (ne-eqb kind 0 w, ne-eqb kind 3 f)
 
 pub sizeFor-low : (kind n : ℕ) → 2 ≤ sizeFor kind n
 unfolding sizeFor

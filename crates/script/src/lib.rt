@@ -44,8 +44,9 @@ fn pair_at(script: &[u8], place: usize) -> u32
     ensures { λ r. ⌜ Pair (now (script .entry)) (place / 8) r ⌝ }
 {
     let i = place / 8;
-    if i + 1 < script.len() {
-        return (script[i] as u32) * 256 + script[i + 1] as u32;
+    let next = i + 1;
+    if next < script.len() {
+        return (script[i] as u32) * 256 + script[next] as u32;
     }
     byte_at(script, i) * 256
 }

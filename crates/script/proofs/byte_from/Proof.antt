@@ -1,5 +1,7 @@
 -- `script::byte_from` meets its contract: eight bits fit a byte.
+use mathlib.Core.Path.{_≡_}
 use native.Mathlib.Omega.{arith}
+use Rattle.script.specs.Script.{numberAt}
 use Rattle.script.proofs.Numbers.{numberAt-lt}
 use borrow.Author.Needs.{needs}
 use Rattle.script.proofs.byte_from.Statement.{statement}
@@ -9,10 +11,13 @@ bits-from-requires : tie.Need-bits-from-requires
 bits-from-requires c κs = search needs
 
 cast-result : tie.Need-cast-result
-cast-result c = omega (arith, c .bits-from .ensures, numberAt-lt (c .before .before .args .script .now) (c .before .before .args .place) 8)
+cast-result c =
+    let a = c .before .before .args in
+    let eight : c .bits-from .result ≡ numberAt (a .script .now) (a .place) 8 = c .bits-from .ensures in
+    omega (arith, numberAt-lt (a .script .now) (a .place) 8)
 
 returns : tie.Need-returns
-returns c = search needs
+returns c = c .bits-from .ensures
 
 pub byte-from-spec : {M : Type 1} → statement M
 byte-from-spec = tie.close (tie.spec bits-from-requires cast-result returns)

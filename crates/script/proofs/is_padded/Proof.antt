@@ -1,6 +1,6 @@
 -- `script::is_padded` meets its contract: each test is a part of the definition, in its order.
-use mathlib.Core.Path.{ap, _∙_}
-use Prim.Native.Nat.{ℕ, _+_, _-_, _*_, _≤_}
+use mathlib.Core.Path.{_≡_, ap, _∙_}
+use Prim.Native.Nat.{ℕ, _+_, _-_, _*_, _≤_, min}
 use native.Mathlib.Nat.{min-eq-left}
 use native.Mathlib.Omega.{arith}
 use lib.Dec.{eqb}
@@ -37,8 +37,9 @@ returns-3 c =
     let a = c .before .before .before .before .args in
     let w = 8 * length (a .script .now) in
     let few : w - a .end ≤ 8 = omega arith in
+    let read : c .bits-from .result ≡ numberAt (a .script .now) (a .end) (min (w - a .end) 8) = c .bits-from .ensures in
     simp (le-leb (a .end) w (c .before .before .if1 .left), lt-ltb w (a .end + 8) (omega arith))
-    (ap (λ (x : ℕ). eqb x 0) (c .bits-from .ensures ∙ ap (numberAt (a .script .now) (a .end)) (min-eq-left few)))
+    (ap (λ (x : ℕ). eqb x 0) (read ∙ ap (numberAt (a .script .now) (a .end)) (min-eq-left few)))
 
 pub is-padded-spec : {M : Type 1} → statement M
 is-padded-spec =

@@ -8,30 +8,32 @@ use borrow.Author.Needs.{needs}
 use Rattle.script.proofs.pair_at.Statement.{statement}
 use Rattle.script.proofs.pair_at.Tie as tie
 
-add-if1 : tie.Need-add-if1
-add-if1 c = search needs
+add-next : tie.Need-add-next
+add-next c = search needs
 
 shared-slice-read-result : tie.Need-shared-slice-read-result
 shared-slice-read-result c = search needs
 
 cast-result : tie.Need-cast-result
-cast-result c = omega (arith, c .shared-slice-known2 .given (c .before .before .before .args .place / 8))
+cast-result c =
+    let i = c .before .before .before .args .place / 8 in
+    omega (arith, c .shared-slice-known2 .given i, c .shared-slice-known2 .given (i + 1))
 
 mul-result : tie.Need-mul-result
-mul-result c = omega (arith, c .shared-slice-known2 .given (c .before .before .before .args .place / 8))
-
-add-result : tie.Need-add-result
-add-result c = search needs
+mul-result c =
+    let i = c .before .before .before .args .place / 8 in
+    omega (arith, c .shared-slice-known2 .given i, c .shared-slice-known2 .given (i + 1))
 
 shared-slice-read-result-2 : tie.Need-shared-slice-read-result-2
 shared-slice-read-result-2 c = search needs
 
 cast-result-2 : tie.Need-cast-result-2
 cast-result-2 c =
-    omega (arith, c .shared-slice-known3 .given (c .before .before .before .before .args .place / 8 + 1))
+    let i = c .before .before .before .before .args .place / 8 in
+    omega (arith, c .shared-slice-known3 .given i, c .shared-slice-known3 .given (i + 1))
 
-add-result-2 : tie.Need-add-result-2
-add-result-2 c =
+add-result : tie.Need-add-result
+add-result c =
     let i = c .before .before .before .before .args .place / 8 in
     omega (arith, c .shared-slice-known3 .given i, c .shared-slice-known3 .given (i + 1))
 
@@ -65,14 +67,13 @@ pub pair-at-spec : {M : Type 1} → statement M
 pair-at-spec =
     tie.close
     (tie.spec
-    add-if1
+    add-next
     shared-slice-read-result
     cast-result
     mul-result
-    add-result
     shared-slice-read-result-2
     cast-result-2
-    add-result-2
+    add-result
     returns
     byte-at-requires
     mul-result-2
