@@ -7,6 +7,7 @@
 --   digits-one, digits-pair     a number of one digit, and of two
 --   digits-hundreds     a number of more: what stands before its last two digits, and those
 --   length-decimal      five digits at most
+--   hexDigit-low, -high         a digit below 10, and a letter
 --   behind-number, behind-byte  what stands behind an event's number, for a number below 10 and for a byte
 use mathlib.Core.Path.{_≡_, refl, sym, ap, ap₂, _∙_, subst}
 use mathlib.Core.Bool.{Bool, true, false, cond}
@@ -95,6 +96,16 @@ length-digitsOf (suc d) n = go (ltb n 10) (length-digitsOf d (n / 10))
 pub length-decimal : (n : ℕ) → length (decimal n) ≤ 5
 unfolding decimal
 length-decimal n = length-digitsOf 5 n
+
+-- ---- hexadecimal digits
+
+pub hexDigit-low : (d : ℕ) → d < 10 → 48 + d ≡ hexDigit d
+unfolding hexDigit
+hexDigit-low d h = simp (lt-ltb d 10 h)
+
+pub hexDigit-high : (d : ℕ) → 10 ≤ d → 55 + d ≡ hexDigit d
+unfolding hexDigit
+hexDigit-high d h = simp (le-ltb d 10 h)
 
 -- ---- behind an event's number
 

@@ -62,11 +62,13 @@ lineOf-text i t = simp append-assoc
 
 pub transcriptOf-run : (s : List ℕ) → isScript s ≡ true → linesFrom s (countOf s) 1 16 powerOn ≡ transcriptOf s
 unfolding transcriptOf
-transcriptOf-run s h = simp h
+transcriptOf-run s h =
+    ap (λ (t : Bool). cond t (linesFrom s (countOf s) 1 16 powerOn) (0x31 ∷ 0x35 ∷ 0x0A ∷ [])) (sym h)
 
 pub transcriptOf-refusal : (s : List ℕ) → isScript s ≡ false → (0x31 ∷ 0x35 ∷ 0x0A ∷ []) ≡ transcriptOf s
 unfolding transcriptOf
-transcriptOf-refusal s h = simp h
+transcriptOf-refusal s h =
+    ap (λ (t : Bool). cond t (linesFrom s (countOf s) 1 16 powerOn) (0x31 ∷ 0x35 ∷ 0x0A ∷ [])) (sym h)
 
 -- ---- numbers of one digit
 

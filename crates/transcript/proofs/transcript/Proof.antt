@@ -1,5 +1,6 @@
 -- `transcript::transcript` meets its contract: the events run only where the script is well formed.
-use mathlib.Core.Path.{sym, _∙_}
+use mathlib.Core.Path.{_≡_, sym, _∙_}
+use mathlib.Core.Bool.{true}
 use native.Mathlib.Omega.{arith}
 use Rattle.transcript.proofs.Buffer.{put-same, put-front}
 use Rattle.transcript.proofs.Events.{transcriptOf-run, transcriptOf-refusal}
@@ -11,7 +12,9 @@ is-script-requires : tie.Need-is-script-requires
 is-script-requires c κs = search needs
 
 run-requires : tie.Need-run-requires
-run-requires c κs = (sym (c .before .is-script .ensures) ∙ c .if1 .taken, omega arith)
+run-requires c κs =
+    let form : c .before .is-script .result ≡ true = c .if1 .taken in
+    (sym (c .before .is-script .ensures) ∙ form, omega arith)
 
 put-refusal-requires : tie.Need-put-refusal-requires
 put-refusal-requires c κs = search needs

@@ -1,7 +1,5 @@
 -- `text::hex_digit` meets its contract: the test is that of the definition.
-use native.Mathlib.Omega.{arith}
-use borrow.Author.Tests.{lt-ltb, le-ltb}
-use Rattle.transcript.specs.Transcript.{hexDigit}
+use Rattle.transcript.proofs.Buffer.{hexDigit-low, hexDigit-high}
 use borrow.Author.Needs.{needs}
 use Rattle.transcript.proofs.text.hex_digit.Statement.{statement}
 use Rattle.transcript.proofs.text.hex_digit.Tie as tie
@@ -16,12 +14,10 @@ add-result-2 : tie.Need-add-result-2
 add-result-2 c = search needs
 
 returns : tie.Need-returns
-unfolding hexDigit
-returns c = simp (lt-ltb (c .before .args .d) 10 (c .if1 .taken))
+returns c = hexDigit-low (c .before .args .d) (c .if1 .taken)
 
 returns-2 : tie.Need-returns-2
-unfolding hexDigit
-returns-2 c = simp (le-ltb (c .before .args .d) 10 (c .if1 .left)) (omega arith)
+returns-2 c = hexDigit-high (c .before .args .d) (c .if1 .left)
 
 pub hex-digit-spec : {M : Type 1} → statement M
 hex-digit-spec = tie.close (tie.spec add-result sub-result add-result-2 returns returns-2)

@@ -1,6 +1,7 @@
 -- `text::put_refusal` meets its contract: three stores.
 use native.Mathlib.Omega.{arith}
 use lib.ListN.{length-set}
+use Rattle.transcript.proofs.Buffer.{put-three}
 use borrow.Author.Needs.{needs}
 use Rattle.transcript.proofs.text.put_refusal.Statement.{statement}
 use Rattle.transcript.proofs.text.put_refusal.Tie as tie
@@ -18,7 +19,7 @@ same-length : tie.Need-same-length
 same-length c = search needs
 
 returns : tie.Need-returns
-returns c = search needs
+returns c = put-three (c .args .out .now) 0 0x31 0x35 0x0A
 
 pub put-refusal-spec : {M : Type 1} → statement M
 put-refusal-spec =
