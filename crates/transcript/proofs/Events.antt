@@ -2,7 +2,7 @@
 --   step-write, -read, -wait, -fit       what an event of each kind gives
 --   afterTime-idle                       time passing with nothing pending changes nothing
 --   lineOf-text                          its line
---   transcriptOf-run, -refusal           what is printed for a script and for any other bytes
+--   transcriptOf-case                    what is printed for a script and for any other bytes
 --   writeNumber-lt, fitNumber-lt         the numbers printed have one digit
 --   Runs                                 the lines left to print bring the buffer to what is promised
 --   runs-first, runs-next, runs-last     where no event has run, one event more, and where all have
@@ -60,15 +60,10 @@ lineOf-text i t = simp append-assoc
 
 -- ---- the whole
 
-pub transcriptOf-run : (s : List ℕ) → isScript s ≡ true → linesFrom s (countOf s) 1 16 powerOn ≡ transcriptOf s
+pub transcriptOf-case : (s : List ℕ) (t : Bool) → isScript s ≡ t → cond t (linesFrom s (countOf s) 1 16 powerOn) (0x31 ∷ 0x35 ∷ 0x0A ∷ []) ≡ transcriptOf s
 unfolding transcriptOf
-transcriptOf-run s h =
-    ap (λ (t : Bool). cond t (linesFrom s (countOf s) 1 16 powerOn) (0x31 ∷ 0x35 ∷ 0x0A ∷ [])) (sym h)
-
-pub transcriptOf-refusal : (s : List ℕ) → isScript s ≡ false → (0x31 ∷ 0x35 ∷ 0x0A ∷ []) ≡ transcriptOf s
-unfolding transcriptOf
-transcriptOf-refusal s h =
-    ap (λ (t : Bool). cond t (linesFrom s (countOf s) 1 16 powerOn) (0x31 ∷ 0x35 ∷ 0x0A ∷ [])) (sym h)
+transcriptOf-case s t h =
+    ap (λ (u : Bool). cond u (linesFrom s (countOf s) 1 16 powerOn) (0x31 ∷ 0x35 ∷ 0x0A ∷ [])) (sym h)
 
 -- ---- numbers of one digit
 
