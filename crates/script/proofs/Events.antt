@@ -5,7 +5,7 @@
 --   endOf-next, endOf-none                      one event more, and none left
 --   endOf-low                                   each event takes two bits at least
 --   countOf-most                                a well-formed script has at most 16,376 events
-use mathlib.Core.Path.{_≡_, refl, sym, ap, ap₂, _∙_}
+use mathlib.Core.Path.{_≡_, refl, ap, ap₂}
 use mathlib.Core.Bool.{Bool, true, false, cond, _&&_, false≢true}
 use mathlib.Core.List.{List}
 use Prim.Native.Nat.{ℕ, zero, suc, _+_, _-_, _*_, _/_, _%_, _<_, _≤_}

@@ -1,6 +1,5 @@
 -- `script::is_script` meets its contract: each test is a part of the definition, in its order.
 use mathlib.Core.Path.{ap, _∙_}
-use Prim.Native.Nat.{ℕ}
 use native.Mathlib.Omega.{arith}
 use lib.ListN.{length}
 use borrow.Author.Tests.{lt-leb, le-leb}

@@ -1,10 +1,10 @@
 -- `transcript::run` meets its contract: each turn runs one event, and the lines left to print bring the buffer to what is promised.
 use mathlib.Core.List.{List}
-use mathlib.Core.Path.{_≡_, refl, sym, ap, ap₂, _∙_}
-use Prim.Native.Nat.{ℕ, _+_, _-_, _/_, _%_, _≤_, _<_}
+use mathlib.Core.Path.{_≡_, sym, ap, _∙_}
+use Prim.Native.Nat.{ℕ, _+_, _-_, _/_, _%_, _≤_}
 use native.Mathlib.Omega.{arith}
 use borrow.Author.Needs.{needs}
-use Rattle.script.specs.Script.{numberAt, kindAt, lengthAt, sizeFor, sizeAt, bytesAt}
+use Rattle.script.specs.Script.{kindAt, lengthAt, sizeFor, sizeAt, bytesAt}
 use Rattle.script.proofs.Events.{kindAt-head, lengthAt-head, sizeAt-head, sizeFor-high, countOf-most}
 use Rattle.transcript.specs.Text.{Put, behindNumber}
 use Rattle.transcript.specs.Transcript.{Step, decimal, hexadecimal, stepAt, linesFrom}
