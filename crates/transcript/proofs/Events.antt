@@ -99,19 +99,19 @@ linesFrom-next s (suc n) i k b h =
     let one : n ≡ suc n - 1 = omega arith in
     ap₂ (λ (m j : ℕ). lineOf i (stepAt s k b) ++ linesFrom s m j (k + sizeAt s k) (stepAt s k b .bridge)) one (sym (add-one i))
 
--- of n events so many are done; the next one stands at the place k, and its line at the place a of the buffer e, which was d
-pub record Runs (s : List ℕ) (n : ℕ) (d e : List ℕ) (b : Bridge) (done k a : ℕ) : Type 0 where
-  pub within : done ≤ n
+-- of n events the i-th comes next; it stands at the place k, and its line at the place a of the buffer e, which was d
+pub record Runs (s : List ℕ) (n : ℕ) (d e : List ℕ) (b : Bridge) (i k a : ℕ) : Type 0 where
+  pub within : i ≤ n + 1
   pub most : n ≤ 16376
-  pub near : k ≤ 16 + 66 * done
-  pub room : a ≤ 11 * done
+  pub near : k + 66 ≤ 16 + 66 * i
+  pub room : a + 11 ≤ 11 * i
   pub kept : length e ≡ length d
-  pub content : sets e a (linesFrom s (n - done) (done + 1) k b) ≡ sets d 0 (linesFrom s n 1 16 powerOn)
-  pub end : a + length (linesFrom s (n - done) (done + 1) k b) ≡ length (linesFrom s n 1 16 powerOn)
+  pub content : sets e a (linesFrom s (n + 1 - i) i k b) ≡ sets d 0 (linesFrom s n 1 16 powerOn)
+  pub end : a + length (linesFrom s (n + 1 - i) i k b) ≡ length (linesFrom s n 1 16 powerOn)
 
-pub runs-first : (s : List ℕ) (n : ℕ) (d : List ℕ) (b : Bridge) → n ≤ 16376 → b ≡ powerOn → Runs s n d d b 0 16 0
+pub runs-first : (s : List ℕ) (n : ℕ) (d : List ℕ) (b : Bridge) → n ≤ 16376 → b ≡ powerOn → Runs s n d d b 1 16 0
 runs-first s n d b h e =
-    let all : linesFrom s (n - 0) 1 16 b ≡ linesFrom s n 1 16 powerOn = ap₂ (λ (m : ℕ) (x : Bridge). linesFrom s m 1 16 x) (omega arith) e in
+    let all : linesFrom s (n + 1 - 1) 1 16 b ≡ linesFrom s n 1 16 powerOn = ap₂ (λ (m : ℕ) (x : Bridge). linesFrom s m 1 16 x) (omega arith) e in
     record {
       within = omega arith;
       most = h;
@@ -122,17 +122,17 @@ runs-first s n d b h e =
       end = omega (arith, ap length all);
     }
 
-module _ (s : List ℕ) (n : ℕ) (d e : List ℕ) (b : Bridge) (done k a : ℕ) (runs : Runs s n d e b done k a) where
-  pub runs-next : (t : Step) (f : List ℕ) (size r : ℕ) → done < n → stepAt s k b ≡ t → size ≡ sizeAt s k → size ≤ 66 → r ≤ a + 11 → Put e f a r (decimal (done + 1) ++ behindNumber (t .letter) (t .value)) → Runs s n d f (t .bridge) (done + 1) (k + size) r
+module _ (s : List ℕ) (n : ℕ) (d e : List ℕ) (b : Bridge) (i k a : ℕ) (runs : Runs s n d e b i k a) where
+  pub runs-next : (t : Step) (f : List ℕ) (size r : ℕ) → i ≤ n → stepAt s k b ≡ t → size ≡ sizeAt s k → size ≤ 66 → r ≤ a + 11 → Put e f a r (decimal i ++ behindNumber (t .letter) (t .value)) → Runs s n d f (t .bridge) (i + 1) (k + size) r
   runs-next t f size r more step sized small short put =
-      let line = decimal (done + 1) ++ behindNumber (t .letter) (t .value) in
-      let rest = linesFrom s (n - (done + 1)) (done + 1 + 1) (k + size) (t .bridge) in
-      let left : n - done - 1 ≡ n - (done + 1) = omega arith in
-      let same : linesFrom s (n - done) (done + 1) k b ≡ line ++ rest =
-      linesFrom-next s (n - done) (done + 1) k b (omega arith)
-      ∙ ap (λ (x : Step). lineOf (done + 1) x ++ linesFrom s (n - done - 1) (done + 1 + 1) (k + sizeAt s k) (x .bridge)) step
-      ∙ ap₂ (λ (m z : ℕ). lineOf (done + 1) t ++ linesFrom s m (done + 1 + 1) (k + z) (t .bridge)) left (sym sized)
-      ∙ ap (λ (x : List ℕ). x ++ rest) (sym (lineOf-text (done + 1) t)) in
+      let line = decimal i ++ behindNumber (t .letter) (t .value) in
+      let rest = linesFrom s (n + 1 - (i + 1)) (i + 1) (k + size) (t .bridge) in
+      let left : n + 1 - i - 1 ≡ n + 1 - (i + 1) = omega arith in
+      let same : linesFrom s (n + 1 - i) i k b ≡ line ++ rest =
+      linesFrom-next s (n + 1 - i) i k b (omega arith)
+      ∙ ap (λ (x : Step). lineOf i x ++ linesFrom s (n + 1 - i - 1) (i + 1) (k + sizeAt s k) (x .bridge)) step
+      ∙ ap₂ (λ (m z : ℕ). lineOf i t ++ linesFrom s m (i + 1) (k + z) (t .bridge)) left (sym sized)
+      ∙ ap (λ (x : List ℕ). x ++ rest) (sym (lineOf-text i t)) in
       record {
         within = omega arith;
         most = runs .most;
@@ -145,11 +145,11 @@ module _ (s : List ℕ) (n : ℕ) (d e : List ℕ) (b : Bridge) (done k a : ℕ)
         end = omega (arith, put .end, runs .end, ap length same, length-append line rest);
       }
 
-  pub runs-last : n ≤ done → Put d e 0 a (linesFrom s n 1 16 powerOn)
+  pub runs-last : n < i → Put d e 0 a (linesFrom s n 1 16 powerOn)
   unfolding linesFrom
   runs-last h =
-      let left : n - done ≡ 0 = omega arith in
-      let none : linesFrom s (n - done) (done + 1) k b ≡ [] = ap (λ (m : ℕ). linesFrom s m (done + 1) k b) left in
+      let left : n + 1 - i ≡ 0 = omega arith in
+      let none : linesFrom s (n + 1 - i) i k b ≡ [] = ap (λ (m : ℕ). linesFrom s m i k b) left in
       record {
         content = sym (ap (sets e a) none) ∙ runs .content;
         end = omega (arith, runs .end, ap length none);

@@ -65,12 +65,12 @@ fn run(script: &[u8], out: &mut [u8]) -> usize
 {
     let count = script::count_of(script);
     let mut bridge = Bridge::power_on();
-    let mut done: u16 = 0;
+    let mut number: u16 = 1;
     let mut place = script::FIRST;
     let mut at: usize = 0;
-    while done < count {
-        done += 1;
-        let next = text::put_decimal(out, at, done);
+    while number <= count {
+        let next = text::put_decimal(out, at, number);
+        number += 1;
         let here = place;
         let head = script::head_at(script, here);
         place += script::size_of(head);

@@ -15,10 +15,10 @@ use Rattle.transcript.proofs.run.Statement.{statement}
 use Rattle.transcript.proofs.run.Tie as tie
 
 abbrev Inv-loop : tie.InvT-loop
-Inv-loop script out₀ count bridge₀ done₀ place₀ at₀ out bridge done place at = Runs script count out₀ out bridge done place at
+Inv-loop script out₀ count bridge₀ number₀ place₀ at₀ out bridge number place at = Runs script count out₀ out bridge number place at
 
 abbrev μ-loop : tie.MeasureT-loop
-μ-loop script out₀ count bridge₀ done₀ place₀ at₀ out bridge done place at = count - done
+μ-loop script out₀ count bridge₀ number₀ place₀ at₀ out bridge number place at = count + 1 - number
 
 -- the event's size, its kind and its byte count, from its head
 sized : (c : tie.After-size-of Inv-loop μ-loop) → c .size-of .result ≡ sizeAt (c .before .before .before .before .before .before .before .before .before .before .before .before .args .script .now) (c .before .before .before .before .before .before .before .loop .place)
@@ -44,12 +44,12 @@ turn : (z : tie.After-size-of Inv-loop μ-loop) (t : Step) (e : List ℕ) (r : �
     let l = z .before .before .before .before .before .before .before .loop in
     let a = z .before .before .before .before .before .before .before .before .before .before .before .before .args in
     stepAt (a .script .now) (l .place) (l .bridge) ≡ t → (Put (d .last .0) e (d .result) r (behindNumber (t .letter) (t .value))) × (r ≤ d .result + 6)
-    → Runs (a .script .now) (z .before .before .before .before .before .before .before .before .before .count-of .result) (a .out .now) e (t .bridge) (l .done + 1) (l .place + z .size-of .result) r)
+    → Runs (a .script .now) (z .before .before .before .before .before .before .before .before .before .count-of .result) (a .out .now) e (t .bridge) (l .number + 1) (l .place + z .size-of .result) r)
 turn z t e r step put =
     let d = z .before .before .before .before .put-decimal in
     let l = z .before .before .before .before .before .before .before .loop in
     let a = z .before .before .before .before .before .before .before .before .before .before .before .before .args in
-    runs-next (a .script .now) (z .before .before .before .before .before .before .before .before .before .count-of .result) (a .out .now) (l .out) (l .bridge) (l .done) (l .place) (l .at) (l .inv) t e (z .size-of .result) r
+    runs-next (a .script .now) (z .before .before .before .before .before .before .before .before .before .count-of .result) (a .out .now) (l .out) (l .bridge) (l .number) (l .place) (l .at) (l .inv) t e (z .size-of .result) r
     (z .before .before .before .before .before .before .loop-test .taken) step (sized z) (small z) (omega (arith, put .1, d .ensures .1)) (put-more (d .ensures .0) (put .0))
 
 count-of-requires : tie.Need-count-of-requires Inv-loop μ-loop
@@ -67,8 +67,8 @@ loop-holds c =
 put-decimal-requires : tie.Need-put-decimal-requires Inv-loop μ-loop
 put-decimal-requires c κs = omega arith
 
-add-done : tie.Need-add-done Inv-loop μ-loop
-add-done c = omega arith
+add-number : tie.Need-add-number Inv-loop μ-loop
+add-number c = omega arith
 
 head-at-requires : tie.Need-head-at-requires Inv-loop μ-loop
 head-at-requires c κs = tt
@@ -185,7 +185,7 @@ returns c =
     let l = c .before .loop in
     let a = c .before .before .before .before .before .before .args in
     let n = c .before .before .before .count-of in (
-      put-same (runs-last (a .script .now) (n .result) (a .out .now) (l .out) (l .bridge) (l .done) (l .place) (l .at) (l .inv) (c .loop-test .left))
+      put-same (runs-last (a .script .now) (n .result) (a .out .now) (l .out) (l .bridge) (l .number) (l .place) (l .at) (l .inv) (c .loop-test .left))
           (ap (λ (m : ℕ). linesFrom (a .script .now) m 1 16 powerOn) (n .ensures)),
       omega arith,
     )
@@ -202,8 +202,8 @@ run-spec =
     count-of-requires
     power-on-requires
     loop-holds
-    add-done
     put-decimal-requires
+    add-number
     head-at-requires
     size-of-requires
     add-place
