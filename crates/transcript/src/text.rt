@@ -24,7 +24,7 @@ fn put_pair(out: &mut [u8], at: usize, n: u16) -> usize
 }
 
 // A number in decimal: five digits at most. The longest are looked for first, since most events of a long script have them.
-pub fn put_decimal(out: &mut [u8], at: usize, n: u16) -> usize
+pub(crate) fn put_decimal(out: &mut [u8], at: usize, n: u16) -> usize
     requires { ⌜ at + 5 ≤ length (now out) ⌝ }
     ensures { λ r. ⌜ Put (now (out .entry)) (now (out .exit)) at r (decimal n) ⌝ }
     ensures { λ r. ⌜ r ≤ at + 5 ⌝ }
@@ -60,7 +60,7 @@ fn put_letter(out: &mut [u8], at: usize, letter: u8) -> usize
 }
 
 // What stands behind the event's number where the value is a number from the table.
-pub fn put_number(out: &mut [u8], at: usize, letter: u8, value: u8) -> usize
+pub(crate) fn put_number(out: &mut [u8], at: usize, letter: u8, value: u8) -> usize
     requires { ⌜ (at + 6 ≤ length (now out)) × (value < 10) ⌝ }
     ensures { λ r. ⌜ Put (now (out .entry)) (now (out .exit)) at r (behindNumber letter (decimal value)) ⌝ }
     ensures { λ r. ⌜ r ≤ at + 6 ⌝ }
@@ -79,7 +79,7 @@ fn hex_digit(d: u8) -> u8
 }
 
 // What stands behind the number of a read.
-pub fn put_byte(out: &mut [u8], at: usize, byte: u8) -> usize
+pub(crate) fn put_byte(out: &mut [u8], at: usize, byte: u8) -> usize
     requires { ⌜ at + 6 ≤ length (now out) ⌝ }
     ensures { λ r. ⌜ Put (now (out .entry)) (now (out .exit)) at r (behindNumber 0x52 (hexadecimal byte)) ⌝ }
     ensures { λ r. ⌜ r ≤ at + 6 ⌝ }
@@ -92,7 +92,7 @@ pub fn put_byte(out: &mut [u8], at: usize, byte: u8) -> usize
 }
 
 // The line of a malformed script.
-pub fn put_refusal(out: &mut [u8]) -> usize
+pub(crate) fn put_refusal(out: &mut [u8]) -> usize
     requires { ⌜ 3 ≤ length (now out) ⌝ }
     ensures { λ r. ⌜ Put (now (out .entry)) (now (out .exit)) 0 r (0x31 ∷ 0x35 ∷ 0x0A ∷ []) ⌝ }
 {
