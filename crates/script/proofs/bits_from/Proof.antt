@@ -1,7 +1,7 @@
 -- `script::bits_from` meets its contract: a walk of its MIR by hand. A reader is opened, moved and read; each call's result is held in a local
 -- and passed on. Of the three calls the proof knows only that each meets its contract. In a local of a body MIR erases the lifetime of the
 -- reader's type, so each reader is shown to have the type at `erased`.
-use mathlib.Core.Path.{_≡_, refl, ap, ap₂, _∙_}
+use mathlib.Core.Path.{_≡_, refl, ap₂, _∙_}
 use Prim.Native.Nat.{ℕ, min, _<_, _^_}
 use mathlib.Core.List.{List, [], _∷_}
 use lib.ListN.{length}
