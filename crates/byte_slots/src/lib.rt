@@ -79,27 +79,19 @@ fn took_bits(before: Probe, byte: u8) -> Probe
     p
 }
 
-// One that sends its ID goes on by eight bits, whatever the levels.
+// One that sends the last eight bits of its ID is selected after them.
 fn took_sending(p: Probe, bit: u8, byte: u8) -> Probe
     requires { ⌜ p .condition ≡ Sending bit ⌝ }
     ensures { λ r. ⌜ r ≡ tookBits 8 byte p ⌝ }
 {
-    if bit < LAST_EIGHT {
+    if bit == LAST_EIGHT {
         Probe {
             id: p.id,
             marked: p.marked,
-            condition: Condition::Sending { bit: bit + 8 },
+            condition: Condition::Selected,
         }
     } else {
-        if bit == LAST_EIGHT {
-            Probe {
-                id: p.id,
-                marked: p.marked,
-                condition: Condition::Selected,
-            }
-        } else {
-            took_bits(p, byte)
-        }
+        took_bits(p, byte)
     }
 }
 
@@ -182,7 +174,8 @@ fn levels_ahead(line: Line, byte: u8) -> u8
     levels
 }
 
-// Every probe takes eight levels, the bits of a byte.
+// Every probe takes eight levels, the bits of a byte. One that sends its ID goes on by eight bits, whatever the levels; it is stored by an
+// assignment of its own, since one place that stores what several ways have made waits for the memory.
 fn taken_byte(mut line: Line, byte: u8) -> Line
     ensures { λ r. ⌜ r ≡ onFitted (tookBits 8 byte) line ⌝ }
 {
@@ -193,7 +186,21 @@ fn taken_byte(mut line: Line, byte: u8) -> Line
         let p = line.probes[at];
         i += 1;
         if !p.rests() {
-            line.probes[at] = took_byte(p, byte);
+            let condition = p.condition;
+            match condition {
+                Condition::Sending { bit } => {
+                    if bit < LAST_EIGHT {
+                        line.probes[at] = Probe {
+                            id: p.id,
+                            marked: p.marked,
+                            condition: Condition::Sending { bit: bit + 8 },
+                        };
+                    } else {
+                        line.probes[at] = took_byte(p, byte);
+                    }
+                }
+                _ => line.probes[at] = took_byte(p, byte),
+            }
         }
     }
     line

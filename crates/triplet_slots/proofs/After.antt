@@ -1,22 +1,26 @@
 -- The slots of a triplet.
 --   rests-sends, rests-sends-two, tookThree-rests     a probe that rests sends nothing and is not changed
 --   searching-sends, searching-two, -three            a searching probe goes through its first two slots whatever the levels
+--   goes-on-below, goes-on-next                       after the third slot it goes on to the next bit, where there is one
 --   second-level, second-slot                         the level of a second write-one slot, and the line after it
 --   slot-onFitted                                     one slot more, after something was done to each probe
-use mathlib.Core.Path.{_≡_, ap, _∙_}
+use mathlib.Core.Path.{_≡_, ap, ap₂, _∙_}
 use mathlib.Core.Bool.{Bool, true, false, cond, not}
-use Prim.Native.Nat.{ℕ}
+use Prim.Native.Nat.{ℕ, _+_, _<_}
+use lib.Dec.{ltb}
+use borrow.Author.Tests.{ltb-true, lt-leb}
 use Rattle.identity.specs.Identity.{bitOf}
 use Rattle.probe.specs.declared.Condition.{Condition}
-use Rattle.probe.specs.declared.Condition.the-variants.{Searching}
+use Rattle.probe.specs.declared.Condition.the-variants.{Deaf, Searching, Selected}
 use Rattle.probe.specs.declared.Slot.the-variants.{First, Third}
 use Rattle.probe.specs.declared.Probe.{Probe}
-use Rattle.probe.specs.Probe.{sends, sendsIn, sendsSearching, took, tookIn, tookSearching, rests, inCondition}
+use Rattle.probe.specs.Probe.{sends, sendsIn, sendsSearching, took, tookIn, tookSearching, agrees, rests, inCondition, withMark}
 use Rattle.probe.proofs.Rests.{took-rests, sends-rests}
 use Rattle.line.specs.declared.Line.{Line}
 use Rattle.line.specs.Line.{all, fitted, onFitted, level, slot}
+use Rattle.line.proofs.Front.{first-of, rest-of}
 use Rattle.line.proofs.Each.{all-of-map, fitted-onFitted, onFitted-onFitted}
-use Rattle.triplet_slots.specs.After.{sendsAfter, sendsAfterTwo, tookTwo, tookThree}
+use Rattle.triplet_slots.specs.After.{sendsAfter, sendsAfterTwo, tookTwo, tookThree, goesOn}
 
 pub rests-sends : (b : Bool) (p : Probe) → rests p ≡ true → sendsAfter b p ≡ true
 rests-sends b p e = ap sends (took-rests b p e) ∙ sends-rests p e
@@ -40,6 +44,17 @@ searching-two k a b p e = ap (λ (c : Condition). took b (tookIn c a p)) e
 pub searching-three : (k : ℕ) (a b c : Bool) (p : Probe) → p .condition ≡ Searching k First → tookThree a b c p ≡ tookSearching k Third c p
 unfolding took tookIn tookSearching
 searching-three k a b c p e = ap (took c) (searching-two k a b p e)
+
+pub goes-on-below : (k : ℕ) (s : Bool) → cond (ltb k 63) s false ≡ true → k < 63
+goes-on-below k s h = ltb-true k 63 (first-of (ltb k 63) s h)
+
+pub goes-on-next : (k : ℕ) (a b c : Bool) (p : Probe) → p .condition ≡ Searching k First → goesOn k c p ≡ true
+    → tookThree a b c p ≡ inCondition p (Searching (k + 1) First)
+unfolding tookSearching
+goes-on-next k a b c p e h =
+    let same : agrees c (p .id) k ≡ true = rest-of (ltb k 63) (agrees c (p .id) k) h in
+    searching-three k a b c p e
+    ∙ ap₂ (λ (s t : Bool). cond s (cond t (withMark p true Selected) (inCondition p (Searching (k + 1) First))) (inCondition p Deaf)) same (lt-leb 63 k (goes-on-below k (agrees c (p .id) k) h))
 
 pub second-level : (l : Line) → level true (slot true l) ≡ all (sendsAfter (level true l)) (fitted l)
 unfolding level slot

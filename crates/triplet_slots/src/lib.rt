@@ -10,7 +10,7 @@ use probe::Slot;
 ghost use mathlib.Core.Path.{_≡_};
 ghost use mathlib.Core.Bool.{true};
 ghost use Rattle.line.specs.Line.{all, fitted, onFitted, level, slot};
-ghost use Rattle.triplet_slots.specs.After.{sendsAfter, sendsAfterTwo, tookTwo, tookThree};
+ghost use Rattle.triplet_slots.specs.After.{sendsAfter, sendsAfterTwo, tookTwo, tookThree, goesOn};
 
 // The levels of two slots.
 pub struct TwoLevels {
@@ -111,7 +111,23 @@ fn all_send_after_two(line: Line, first: bool, second: bool) -> bool
     true
 }
 
-// Every probe takes three levels, one after the other.
+// A probe that searches at this bit goes on to the next one after a third slot of this level.
+fn goes_on(p: Probe, bit: u8, level: bool) -> bool
+    ensures { λ r. ⌜ r ≡ goesOn bit level p ⌝ }
+{
+    if bit < 63 {
+        if identity::bit(p.id, bit) {
+            level
+        } else {
+            !level
+        }
+    } else {
+        false
+    }
+}
+
+// Every probe takes three levels, one after the other. One that goes on searching is stored by an assignment of its own, since one place
+// that stores what several ways have made waits for the memory.
 fn taken_three(mut line: Line, first: bool, second: bool, third: bool) -> Line
     ensures { λ r. ⌜ r ≡ onFitted (tookThree first second third) line ⌝ }
 {
@@ -122,7 +138,27 @@ fn taken_three(mut line: Line, first: bool, second: bool, third: bool) -> Line
         let p = line.probes[at];
         i += 1;
         if !p.rests() {
-            line.probes[at] = took_three(p, first, second, third);
+            let condition = p.condition;
+            match condition {
+                Condition::Searching { bit, slot } => match slot {
+                    Slot::First => {
+                        if goes_on(p, bit, third) {
+                            line.probes[at] = Probe {
+                                id: p.id,
+                                marked: p.marked,
+                                condition: Condition::Searching {
+                                    bit: bit + 1,
+                                    slot: Slot::First,
+                                },
+                            };
+                        } else {
+                            line.probes[at] = took_three(p, first, second, third);
+                        }
+                    }
+                    _ => line.probes[at] = took_three(p, first, second, third),
+                },
+                _ => line.probes[at] = took_three(p, first, second, third),
+            }
         }
     }
     line
