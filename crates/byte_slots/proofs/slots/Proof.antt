@@ -1,10 +1,10 @@
 -- `byte_slots::slots` meets its contract: on a line of foreseen probes the levels are known before the slots.
-use mathlib.Core.Path.{sym, ap, _∙_}
+use mathlib.Core.Path.{_≡_, sym, ap, _∙_}
 use Prim.Native.Nat.{ℕ, _%_}
 use native.Mathlib.Omega.{arith}
 use borrow.Author.Needs.{needs}
-use Rattle.line.specs.Line.{onFitted}
-use Rattle.byte_slots.specs.Foresight.{tookBits}
+use Rattle.line.specs.Line.{fitted, onFitted}
+use Rattle.byte_slots.specs.Foresight.{meet, tookBits}
 use Rattle.byte_slots.proofs.Foresight.{slots-foreseen, levels-foreseen}
 use Rattle.byte_slots.proofs.slots.Statement.{statement}
 use Rattle.byte_slots.proofs.slots.Tie as tie
@@ -26,9 +26,11 @@ returns c =
     let at = c .before .levels-ahead in
     let start = c .before .before .before .before in
     let a = start .args in
+    let found : at .result ≡ meet 8 (a .byte) (fitted (a .line)) = at .ensures in
+    let took : c .taken-byte .result ≡ onFitted (tookBits 8 (at .result)) (a .line) = c .taken-byte .ensures in
     let seen = sym (c .before .before .before .all-foreseen .ensures) ∙ c .before .before .if1 .taken in (
-      omega arith ∙ ap (λ (m : ℕ). m % 256) (at .ensures) ∙ sym (levels-foreseen 8 (a .byte) (a .line) seen),
-      c .taken-byte .ensures ∙ ap (λ (m : ℕ). onFitted (tookBits 8 m) (a .line)) (at .ensures) ∙ sym (slots-foreseen 8 (a .byte) (a .line) seen),
+      omega arith ∙ ap (λ (m : ℕ). m % 256) found ∙ sym (levels-foreseen 8 (a .byte) (a .line) seen),
+      took ∙ ap (λ (m : ℕ). onFitted (tookBits 8 m) (a .line)) found ∙ sym (slots-foreseen 8 (a .byte) (a .line) seen),
     )
 
 returns-2 : tie.Need-returns-2

@@ -19,7 +19,8 @@ unfolding level
 returns c =
     let l = c .before .before .args .line in
     let one : c .before .level .result ≡ level true l = c .before .level .ensures in
-    (one, c .all-send-after .ensures ∙ ap (λ (a : Bool). all (sendsAfter a) (fitted l)) one ∙ sym (second-level l))
+    let two : c .all-send-after .result ≡ all (sendsAfter (c .before .level .result)) (fitted l) = c .all-send-after .ensures in
+    (one, two ∙ ap (λ (a : Bool). all (sendsAfter a) (fitted l)) one ∙ sym (second-level l))
 
 pub two-levels-spec : {M : Type 1} → statement M
 two-levels-spec = tie.close (tie.spec level-requires all-send-after-requires returns)
