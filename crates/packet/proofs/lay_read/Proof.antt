@@ -1,5 +1,8 @@
 -- `packet::lay_read` meets its contract: the head, then the checksum behind it.
-use mathlib.Core.Path.{_∙_}
+use mathlib.Core.Path.{_≡_, _∙_}
+use lib.ListN.{take}
+use Rattle.packet.specs.Buffer.{placed}
+use Rattle.packet.specs.Request.{sealOf}
 use Rattle.packet.proofs.Forming.{read-laid}
 use borrow.Author.Needs.{needs}
 use Rattle.packet.proofs.lay_read.Statement.{statement}
@@ -31,7 +34,9 @@ returns c =
     let s = c .before .before in
     let h = s .before .before .before .before in
     let a = h .before .before .before .args in
-    s .put-seal .ensures ∙ read-laid (a .address) (a .count) (a .buffer .now) (h .put-head .last .0) (h .put-head .ensures)
+    let before = h .put-head .last .0 in
+    let sealed : s .put-seal .last .0 ≡ placed 3 (sealOf (take 3 before)) before = s .put-seal .ensures in
+    sealed ∙ read-laid (a .address) (a .count) (a .buffer .now) (h .put-head .last .0) (h .put-head .ensures)
 
 pub lay-read-spec : {M : Type 1} → statement M
 lay-read-spec =

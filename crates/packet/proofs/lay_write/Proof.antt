@@ -1,5 +1,9 @@
 -- `packet::lay_write` meets its contract: the head, the data behind it, then the checksum.
-use mathlib.Core.Path.{_∙_}
+use mathlib.Core.Path.{_≡_, _∙_}
+use Prim.Native.Nat.{_+_}
+use lib.ListN.{length, take}
+use Rattle.packet.specs.Buffer.{placed}
+use Rattle.packet.specs.Request.{sealOf}
 use Rattle.packet.proofs.Forming.{write-laid}
 use borrow.Author.Needs.{needs}
 use Rattle.packet.proofs.lay_write.Statement.{statement}
@@ -35,7 +39,10 @@ returns c =
     let d = s .before .before .before .before in
     let h = d .before .before .before .before in
     let a = h .before .before .before .before .args in
-    s .put-seal .ensures
+    let before = d .put-data .last .0 in
+    let place = length (a .«data» .now) + 3 in
+    let sealed : s .put-seal .last .0 ≡ placed place (sealOf (take place before)) before = s .put-seal .ensures in
+    sealed
     ∙ write-laid (a .address) (a .«data» .now) (a .buffer .now) (h .put-head .last .0) (d .put-data .last .0)
     (h .put-head .ensures) (d .put-data .ensures)
 

@@ -1,7 +1,10 @@
 -- `packet::lay_write_read` meets its contract: the head, the data behind it, R, then the checksum.
-use mathlib.Core.Path.{_∙_}
+use mathlib.Core.Path.{_≡_, _∙_}
+use Prim.Native.Nat.{_+_}
 use native.Mathlib.Omega.{arith}
-use lib.ListN.{length-set}
+use lib.ListN.{length, take, set, length-set}
+use Rattle.packet.specs.Buffer.{placed}
+use Rattle.packet.specs.Request.{sealOf}
 use Rattle.packet.proofs.Forming.{writeRead-laid}
 use borrow.Author.Needs.{needs}
 use Rattle.packet.proofs.lay_write_read.Statement.{statement}
@@ -50,7 +53,10 @@ returns c =
     let d = s .before .before .before .before in
     let h = d .before .before .before .before in
     let a = h .before .before .before .before .args in
-    s .put-seal .ensures
+    let place = length (a .«data» .now) + 4 in
+    let before = set (d .put-data .last .0) (length (a .«data» .now) + 3) (a .count) in
+    let sealed : s .put-seal .last .0 ≡ placed place (sealOf (take place before)) before = s .put-seal .ensures in
+    sealed
     ∙ writeRead-laid (a .address) (a .«data» .now) (a .count) (a .buffer .now) (h .put-head .last .0) (d .put-data .last .0)
     (h .put-head .ensures) (d .put-data .ensures) (h .before .before .before .before .pre .3)
 
