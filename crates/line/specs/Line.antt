@@ -33,6 +33,7 @@ any f (x ∷ xs) = cond (f x) true (any f xs)
 unfoldable pub fitted : Line → List Probe
 fitted l = take (l .count) (l .probes)
 
+-- A probe's ID, and the IDs of all.
 abbrev pub idOf : Probe → ℕ
 idOf p = p .id
 

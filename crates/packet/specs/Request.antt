@@ -38,10 +38,11 @@ sealOf s = (invertedOf s % 256) ∷ (invertedOf s / 256) ∷ []
 unfoldable pub packetOf : Request → List ℕ
 packetOf q = bodyOf q ++ sealOf (bodyOf q)
 
--- An address is at most 127, L and R are from 1 to 255.
+-- An address is at most 127.
 abbrev pub goodAddress : ℕ → Bool
 goodAddress a = leb a 127
 
+-- L and R go from 1 to 255.
 abbrev pub goodCount : ℕ → Bool
 goodCount n = leb 1 n && leb n 255
 

@@ -96,6 +96,7 @@ tookSearching k Third l p =
     cond (agrees l (p .id) k) (cond (leb 63 k) (withMark p true Selected) (inCondition p (Searching (k + 1) First)))
     (inCondition p Deaf)
 
+-- By the condition: one that is deaf or selected stays as it is.
 unfoldable pub tookIn : Condition → Bool → Probe → Probe
 tookIn Deaf l p = p
 tookIn (Taking n c) l p = tookCode n c l p
@@ -119,6 +120,6 @@ restsIn Selected = true
 unfoldable pub rests : Probe → Bool
 rests p = restsIn (p .condition)
 
--- A 1-Wire reset puts every probe into taking a command with no bits.
+-- A 1-Wire reset puts every probe into taking a command with no bits; the mark stays.
 abbrev pub reset : Probe → Probe
 reset p = inCondition p (Taking 0 0)

@@ -26,6 +26,7 @@ digitsOf (suc d) n = cond (ltb n 10) ((48 + n) ∷ []) (digitsOf d (n / 10) ++ (
 unfoldable pub decimal : ℕ → List ℕ
 decimal n = digitsOf 5 n
 
+-- 0 to 9, then A to F.
 unfoldable pub hexDigit : ℕ → ℕ
 hexDigit d = cond (ltb d 10) (48 + d) (55 + d)
 
