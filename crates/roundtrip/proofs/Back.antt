@@ -1,7 +1,9 @@
 -- Reading a packet just formed gives the request that made it.
+--   longest         the packet of a request within its limits has at most 261 bytes
 --   sealed-true     a body with its checksum behind it is sealed
 --   back            the reader's answer for the packet of a request within its limits
---   back-formed     the same of what forming leaves at the front of a buffer
+--   request-back    the request that this answer stands for in that packet is the very request, its data included
+--   back-formed     the reader's answer for what forming leaves at the front of a buffer
 --   back-refused    a request that is refused
 --   fits-formed     the packet fits the buffer that it was formed in
 use mathlib.Core.Path.{_≡_, refl, sym, ap, ap₂, _∙_}
@@ -13,14 +15,27 @@ use borrow.Author.Tests.{eq-eqb, ne-eqb, le-leb}
 use lib.Dec.{eqb}
 use lib.ListN.{length, getD, take, length-append}
 use lib.Seq.{take-append-seam, getD-append-seam, getD-append-add}
+use Rattle.packet.specs.declared.Reading.{Reading}
 use Rattle.packet.specs.declared.Reading.the-variants.{Refused}
 use Rattle.packet.specs.Request.{Request, write, read, writeRead, bodyOf, invertedOf, sealOf, packetOf, goodAddress, goodCount, inLimits, formNumber, formed}
-use Rattle.packet.specs.Reading.{writeForm, readForm, writeReadForm, formOf, isSealed, checked, readingOf, partsOf}
+use Rattle.packet.specs.Reading.{writeForm, readForm, writeReadForm, formOf, isSealed, checked, readingOf, partsOf, requestIn}
 use Rattle.packet.specs.Buffer.{over}
 use Rattle.packet.proofs.Limits.{left-true, right-true, count-of, good-of, room-of}
 use Rattle.packet.proofs.Buffer.{take-over}
 use Rattle.roundtrip.specs.RoundTrip.{readBack}
-use Rattle.packet.proofs.Forming.{length-write, length-writeRead}
+use Rattle.packet.proofs.Forming.{length-write, length-read, length-writeRead}
+
+-- ---- the length
+
+pub longest : (q : Request) → inLimits q ≡ true → length (packetOf q) ≤ 261
+unfolding inLimits
+longest (write a s) g =
+    omega (arith, length-write a s, count-of (length s) (right-true (goodAddress a) (goodCount (length s)) g) .1)
+longest (read a r) g = omega (arith, length-read a r)
+longest (writeRead a s r) g =
+    let t : Bool = goodAddress a && goodCount (length s) in
+    let f : t ≡ true = left-true t (goodCount r) g in
+    omega (arith, length-writeRead a s r, count-of (length s) (right-true (goodAddress a) (goodCount (length s)) f) .1)
 
 -- ---- the checksum
 
@@ -97,6 +112,19 @@ checked-parts (writeRead a s r) = refl
 pub back : (q : Request) → inLimits q ≡ true → readingOf (packetOf q) ≡ partsOf q
 unfolding readingOf packetOf
 back q g = ap₂ checked (sealed-true (bodyOf q)) (form-of q g) ∙ checked-parts q
+
+-- the data lies in the packet where the parts say
+request-parts : (q : Request) → requestIn (partsOf q) (packetOf q) ≡ q
+unfolding requestIn partsOf packetOf bodyOf
+request-parts (write a s) = ap (write a) (take-append-seam s (sealOf (bodyOf (write a s))))
+request-parts (read a r) = refl
+request-parts (writeRead a s r) =
+    let t : List ℕ = sealOf (bodyOf (writeRead a s r)) in
+    ap (λ (x : List ℕ). writeRead a x r)
+    (ap (take (length s)) (append-assoc s (r ∷ []) t) ∙ take-append-seam s (r ∷ t))
+
+pub request-back : (q : Request) → inLimits q ≡ true → requestIn (readingOf (packetOf q)) (packetOf q) ≡ q
+request-back q g = ap (λ (x : Reading). requestIn x (packetOf q)) (back q g) ∙ request-parts q
 
 -- ---- what forming leaves in a buffer
 

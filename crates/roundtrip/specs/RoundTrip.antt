@@ -13,7 +13,8 @@ use Rattle.packet.specs.Buffer.{over}
 use Rattle.packet.specs.Request.{Request, formNumber}
 use Rattle.packet.specs.Reading.{readingOf, partsOf}
 
--- Reading a packet just formed gives the request that made it; a refused request is refused with the number that forming gave.
+-- Reading a packet just formed gives the parts of the request that made it, the data as start and length; a refused request is refused
+-- with the number that forming gave. That these parts of that packet stand for the very request is the law `request-back`.
 unfoldable pub readBack : Request → List ℕ → Reading
 readBack q d = cond (eqb (formNumber q d) 0) (partsOf q) (Refused (formNumber q d))
 
