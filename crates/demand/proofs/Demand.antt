@@ -9,22 +9,22 @@ use mathlib.Core.List.List·Memᴰ.{List·Memᴰ·head}
 use Prim.Native.Nat.{ℕ, _*_, _^_, _<_, _≤_, min, max}
 use native.Mathlib.Decide.{decLe}
 use native.Mathlib.Omega.{arith}
-use borrow.Author.Tests.{lt-ltb, le-ltb}
+use borrow.Author.Tests.{eqb-true, lt-ltb, le-ltb}
 use lib.Dec.{eqb, leb, ltb}
 use lib.ListN.{length, take, drop, length-append, length-take, take-append-drop}
 use lib.Seq.{take-take, take-all}
 use Rattle.identity.specs.Identity.{numberOf}
 use Rattle.probe.specs.declared.Condition.the-variants.{Deaf, Selected}
 use Rattle.probe.specs.declared.Probe.{Probe}
-use Rattle.probe.specs.Probe.{deafNew, obeyed, resumed}
+use Rattle.probe.specs.Probe.{digit, deafNew, obeyed, resumed}
 use Rattle.line.specs.declared.Line.{Line}
 use Rattle.line.specs.Line.{fitted, idOf, idsOf, fitNumber}
 use Rattle.bridge.specs.declared.Bridge.{Bridge}
 use Rattle.bridge.specs.Bridge.{command, afterFitting}
 use Rattle.bridge.specs.Reached.{Bytes, Reached}
 use Rattle.bridge.specs.Reached.Reached.{fit}
-use Rattle.search.specs.declared.Answer.the-variants.{Listed}
-use Rattle.search.specs.Search.{search, searchNumber, answerOf, listOf, bufferOf}
+use Rattle.search.specs.declared.Answer.the-variants.{Listed, Refused}
+use Rattle.search.specs.Search.{search, searchNumber, answerOf, answerNumber, valuesOf, listOf, bufferOf}
 use Rattle.enumeration.specs.Order.{Among, Narrow, InOrder}
 use Rattle.enumeration.proofs.Tree.{begins, sorted}
 use Rattle.enumeration.proofs.Order.{in-order-unique, in-order-more}
@@ -181,6 +181,18 @@ module _ (b : Bridge) (r : Reached b) where
       ∙ ap₂ (λ (x y : ℕ). Listed x y (search m b .complete)) (number-of m) (passes-used m)
       ∙ ap (Listed (min m (length (idsAt b))) (min m (max 1 (length (idsAt b))))) (complete-when m)
 
+  -- a list has the number 0, which is the call's, and a refusal the call's
+  number-with : (m : ℕ) (d : List ℕ) → answerNumber (answerOf m d b) ≡ searchNumber m d b
+  unfolding answerOf
+  number-with m d = go (searchNumber m d b) (eqb (searchNumber m d b) 0) refl
+    where
+      go : (k : ℕ) (t : Bool) → eqb k 0 ≡ t → answerNumber (cond t (Listed (length (search m b .ids)) (search m b .passes) (search m b .complete)) (Refused k)) ≡ k
+      go k true h = sym (eqb-true k 0 h)
+      go k false h = refl
+
+  values-with : (m : ℕ) (d : List ℕ) → 8 * min m 64 ≤ length d → valuesOf (answerOf m d b) ≡ min m (length (idsAt b)) ∷ min m (max 1 (length (idsAt b))) ∷ digit (leb 1 m && leb (length (idsAt b)) m) ∷ []
+  values-with m d h = ap valuesOf (answer-with m d h)
+
   buffer-with : (m : ℕ) (d : List ℕ) → 8 * min m 64 ≤ length d → bufferOf m d b ≡ listOf (take m order-of) ++ drop (8 * min m (length (idsAt b))) d
   buffer-with m d h =
       settled m d h .buffer
@@ -228,8 +240,10 @@ demand b r =
       loud = λ m. found b r m .loud;
       complete = complete-when b r;
       passes = passes-used b r;
+      numbered = number-with b r;
       refused = refused-with b r;
       answer = answer-with b r;
+      values = values-with b r;
       buffer = buffer-with b r;
       state = λ m d h. settled b r m d h .state;
       longer = longer-by b r;

@@ -12,13 +12,14 @@ use lib.ListN.{length, take, drop}
 use Rattle.identity.specs.Identity.{numberOf}
 use Rattle.probe.specs.declared.Condition.the-variants.{Deaf, Selected}
 use Rattle.probe.specs.declared.Probe.{Probe}
+use Rattle.probe.specs.Probe.{digit}
 use Rattle.line.specs.declared.Line.{Line}
 use Rattle.line.specs.Line.{fitted, idsOf, fitNumber}
 use Rattle.bridge.specs.declared.Bridge.{Bridge}
 use Rattle.bridge.specs.Bridge.{command, afterFitting}
 use Rattle.bridge.specs.Reached.{Bytes, Reached}
 use Rattle.search.specs.declared.Answer.the-variants.{Listed}
-use Rattle.search.specs.Search.{search, searchNumber, answerOf, listOf, bufferOf, bridgeOf}
+use Rattle.search.specs.Search.{search, searchNumber, answerOf, answerNumber, valuesOf, listOf, bufferOf, bridgeOf}
 use Rattle.enumeration.specs.Order.{Among, InOrder}
 
 abbrev pub idsAt : Bridge → List ℕ
@@ -43,10 +44,12 @@ pub record Demand (b : Bridge) : Type 0 where
   -- It says complete exactly when m is at least 1 and at least n; the passes used are the smaller of m and the larger of 1 and n.
   pub complete : (m : ℕ) → search m b .complete ≡ (leb 1 m && leb (length (idsAt b)) m)
   pub passes : (m : ℕ) → search m b .passes ≡ min m (max 1 (length (idsAt b)))
-  -- The call refuses with 9 alone. With room for 8 × the smaller of m and 64 bytes it answers so, the IDs lie at the front of the buffer
+  -- The answer has the call's number. The call refuses with 9 alone. With room for 8 × the smaller of m and 64 bytes it answers so, the IDs lie at the front of the buffer
   -- with the bytes behind them as they were, and the state is that of the search.
+  pub numbered : (m : ℕ) (d : List ℕ) → answerNumber (answerOf m d b) ≡ searchNumber m d b
   pub refused : (m : ℕ) (d : List ℕ) → searchNumber m d b ≡ cond (ltb (length d) (8 * min m 64)) 9 0
   pub answer : (m : ℕ) (d : List ℕ) → 8 * min m 64 ≤ length d → answerOf m d b ≡ Listed (min m (length (idsAt b))) (min m (max 1 (length (idsAt b)))) (leb 1 m && leb (length (idsAt b)) m)
+  pub values : (m : ℕ) (d : List ℕ) → 8 * min m 64 ≤ length d → valuesOf (answerOf m d b) ≡ min m (length (idsAt b)) ∷ min m (max 1 (length (idsAt b))) ∷ digit (leb 1 m && leb (length (idsAt b)) m) ∷ []
   pub buffer : (m : ℕ) (d : List ℕ) → 8 * min m 64 ≤ length d → bufferOf m d b ≡ listOf (take m order) ++ drop (8 * min m (length (idsAt b))) d
   pub state : (m : ℕ) (d : List ℕ) → 8 * min m 64 ≤ length d → bridgeOf m d b ≡ search m b .bridge
   -- More passes only lengthen the list at its end.

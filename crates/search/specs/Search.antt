@@ -1,12 +1,18 @@
 -- The search (document 01, "The search" and "Numbers returned").
 --   direction i c k      the direction asked for at bit k, after a pass that ended at the ID i with the last conflict c
+--   noted f s t k c      the last conflict after bit k with the levels f and s and the bit t taken, where it was c before
 --   tripled i c k w      the walk w after the triplet of bit k
 --   walked n k i c w     the walk w after the n triplets from bit k on
 --   begun b              the walk before its first triplet
 --   passed i c b         a pass from the bridge b on, where a probe is present
+--   Result               what a search comes to
 --   searched n i c b     what at most n passes from the bridge b on come to
 --   search n b           what a search that is allowed n passes comes to: IDs, passes used, completeness, the bridge afterwards
+--   searchNumber n d b   the number that it gives for the list buffer d
 --   answerOf n d b       the answer for the list buffer d
+--   answerNumber a       the paper's number of the answer a
+--   valuesOf a           its values: the number listed, the passes used, 1 or 0 for complete
+--   listOf ids           the bytes of the IDs `ids`, eight each
 --   bufferOf n d b       the list buffer afterwards
 --   bridgeOf n d b       the bridge afterwards
 use Prim.Native.Nat.{ℕ, zero, suc, _+_, _*_, _/_, _%_, _^_, min}
@@ -126,6 +132,16 @@ unfoldable pub answerOf : ℕ → List ℕ → Bridge → Answer
 answerOf n d b =
     let r = search n b in
     cond (eqb (searchNumber n d b) 0) (Listed (length (r .ids)) (r .passes) (r .complete)) (Refused (searchNumber n d b))
+
+-- What an answer means. A search that was done has the number 0.
+abbrev pub answerNumber : Answer → ℕ
+answerNumber (Listed count passes complete) = 0
+answerNumber (Refused number) = number
+
+-- The number listed, the number of passes used and whether it is complete, as 1 or 0; a refusal returns its number alone.
+abbrev pub valuesOf : Answer → List ℕ
+valuesOf (Listed count passes complete) = count ∷ passes ∷ digit complete ∷ []
+valuesOf (Refused number) = []
 
 -- The eight bytes of an ID, family code first.
 unfoldable pub bytesFrom : ℕ → ℕ → List ℕ
