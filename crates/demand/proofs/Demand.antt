@@ -1,12 +1,13 @@
 -- The third demand holds of every state that calls reach.
+--   listed-bytes     the bytes listed of an ID are its bytes
 --   resumed-line     after a Resume exactly the probe that the last pass ended at is selected
 --   ids-more         an accepted fitting puts its ID behind the others
 --   demand           the demand, part by part
 use mathlib.Core.Path.{_≡_, refl, sym, ap, ap₂, subst, subst⁻¹, _∙_}
 use mathlib.Core.Bool.{Bool, true, false, cond, _&&_}
-use mathlib.Core.List.{List, [], _∷_, _++_, map, Memᴰ·of-map, Memᴰ·append-left, Memᴰ·append-right}
+use mathlib.Core.List.{List, [], _∷_, _++_, map, append-nil, Memᴰ·of-map, Memᴰ·append-left, Memᴰ·append-right}
 use mathlib.Core.List.List·Memᴰ.{List·Memᴰ·head}
-use Prim.Native.Nat.{ℕ, _*_, _^_, _<_, _≤_, min, max}
+use Prim.Native.Nat.{ℕ, suc, _+_, _*_, _/_, _%_, _^_, _<_, _≤_, min, max}
 use native.Mathlib.Decide.{decLe}
 use native.Mathlib.Omega.{arith}
 use borrow.Author.Tests.{eqb-true, lt-ltb, le-ltb}
@@ -24,7 +25,7 @@ use Rattle.bridge.specs.Bridge.{command, afterFitting}
 use Rattle.bridge.specs.Reached.{Bytes, Reached}
 use Rattle.bridge.specs.Reached.Reached.{fit}
 use Rattle.search.specs.declared.Answer.the-variants.{Listed, Refused}
-use Rattle.search.specs.Search.{search, searchNumber, answerOf, answerNumber, valuesOf, listOf, bufferOf}
+use Rattle.search.specs.Search.{search, searchNumber, answerOf, answerNumber, valuesOf, bytesFrom, listOf, bufferOf}
 use Rattle.enumeration.specs.Order.{Among, Narrow, InOrder}
 use Rattle.enumeration.proofs.Tree.{begins, sorted}
 use Rattle.enumeration.proofs.Order.{in-order-unique, in-order-more}
@@ -53,6 +54,23 @@ last-one (y ∷ z ∷ l) h =
 
 take-longer : (m n : ℕ) (l : List ℕ) → m ≤ n → take n l ≡ take m l ++ drop m (take n l)
 take-longer m n l h = sym (take-append-drop m (take n l)) ∙ ap (λ (p : List ℕ). p ++ drop m (take n l)) (take-take m n l h)
+
+-- ---- bytes
+
+-- each byte of a number of bytes is the byte that went into it
+bytes-number : (x : List ℕ) → Bytes x → bytesFrom (length x) (numberOf x) ≡ x
+unfolding bytesFrom numberOf
+bytes-number [] small = refl
+bytes-number (y ∷ ys) small =
+    let low : (y + 256 * numberOf ys) % 256 ≡ y = omega (arith, small 0) in
+    let high : (y + 256 * numberOf ys) / 256 ≡ numberOf ys = omega (arith, small 0) in
+    ap₂ (λ (v : ℕ) (l : List ℕ). v ∷ l) low
+    (ap (bytesFrom (length ys)) high ∙ bytes-number ys (λ k. small (suc k)))
+
+listed-bytes : (x : List ℕ) → Bytes x → length x ≡ 8 → listOf (numberOf x ∷ []) ≡ x
+unfolding listOf
+listed-bytes x small eight =
+    append-nil (bytesFrom 8 (numberOf x)) ∙ ap (λ (n : ℕ). bytesFrom n (numberOf x)) (sym eight) ∙ bytes-number x small
 
 -- ---- Resume
 
@@ -154,11 +172,14 @@ module _ (b : Bridge) (r : Reached b) where
       let l = last-one (search m b .ids) h in
       (l .0, l .1, l .2, resumed-last m (l .0) (l .1) (l .2))
 
+  sound : Sound (b .line)
+  sound = reached-sound r
+
+  at-most : length (idsAt b) ≤ 64
+  at-most = omega (arith, sound .counted, sound .within)
+
   capped-at : (m : ℕ) → search m b ≡ search (min m 64) b
   capped-at = search-capped b (omega (arith, sound .entries)) (omega (arith, sound .entries))
-    where
-      sound : Sound (b .line)
-      sound = reached-sound r
 
   -- with room the call is done
   settled : (m : ℕ) (d : List ℕ) → 8 * min m 64 ≤ length d → Answered m d b (Listed (length (search m b .ids)) (search m b .passes) (search m b .complete)) (search m b .bridge) (listOf (search m b .ids) ++ drop (length (listOf (search m b .ids))) d)
@@ -232,6 +253,7 @@ fitting-one b r x bytes eight e m h =
 pub demand : (b : Bridge) → Reached b → Demand b
 demand b r =
     record {
+      atMost = at-most b r;
       order = order-of b r;
       ordered = order-is b r;
       unique = λ l o. in-order-unique o (order-is b r);
@@ -246,6 +268,7 @@ demand b r =
       values = values-with b r;
       buffer = buffer-with b r;
       state = λ m d h. settled b r m d h .state;
+      bytes = listed-bytes;
       longer = longer-by b r;
       fitting = fitting-one b r;
       resume = resume-last b r;

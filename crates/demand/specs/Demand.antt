@@ -33,6 +33,8 @@ pub record Resumed (x : ℕ) (l : Line) : Type 0 where
   pub only : (p : Probe) → Among p (fitted l) → p .condition ≡ cond (eqb (p .id) x) Selected Deaf
 
 pub record Demand (b : Bridge) : Type 0 where
+  -- At most 64 probes.
+  pub atMost : length (idsAt b) ≤ 64
   -- The n IDs in search order: there is exactly one such list.
   pub order : List ℕ
   pub ordered : InOrder (idsAt b) order
@@ -44,14 +46,16 @@ pub record Demand (b : Bridge) : Type 0 where
   -- It says complete exactly when m is at least 1 and at least n; the passes used are the smaller of m and the larger of 1 and n.
   pub complete : (m : ℕ) → search m b .complete ≡ (leb 1 m && leb (length (idsAt b)) m)
   pub passes : (m : ℕ) → search m b .passes ≡ min m (max 1 (length (idsAt b)))
-  -- The answer has the call's number. The call refuses with 9 alone. With room for 8 × the smaller of m and 64 bytes it answers so, the IDs lie at the front of the buffer
-  -- with the bytes behind them as they were, and the state is that of the search.
+  -- The answer has the call's number, and the call refuses with 9 alone. With room for 8 × the smaller of m and 64 bytes it answers so,
+  -- the IDs lie at the front of the buffer with the bytes behind them as they were, and the state is that of the search.
   pub numbered : (m : ℕ) (d : List ℕ) → answerNumber (answerOf m d b) ≡ searchNumber m d b
   pub refused : (m : ℕ) (d : List ℕ) → searchNumber m d b ≡ cond (ltb (length d) (8 * min m 64)) 9 0
   pub answer : (m : ℕ) (d : List ℕ) → 8 * min m 64 ≤ length d → answerOf m d b ≡ Listed (min m (length (idsAt b))) (min m (max 1 (length (idsAt b)))) (leb 1 m && leb (length (idsAt b)) m)
   pub values : (m : ℕ) (d : List ℕ) → 8 * min m 64 ≤ length d → valuesOf (answerOf m d b) ≡ min m (length (idsAt b)) ∷ min m (max 1 (length (idsAt b))) ∷ digit (leb 1 m && leb (length (idsAt b)) m) ∷ []
   pub buffer : (m : ℕ) (d : List ℕ) → 8 * min m 64 ≤ length d → bufferOf m d b ≡ listOf (take m order) ++ drop (8 * min m (length (idsAt b))) d
   pub state : (m : ℕ) (d : List ℕ) → 8 * min m 64 ≤ length d → bridgeOf m d b ≡ search m b .bridge
+  -- The eight bytes that are listed of an ID are those that were fitted.
+  pub bytes : (x : List ℕ) → Bytes x → length x ≡ 8 → listOf (numberOf x ∷ []) ≡ x
   -- More passes only lengthen the list at its end.
   pub longer : (m n : ℕ) → m ≤ n → (r : List ℕ) × (search n b .ids ≡ search m b .ids ++ r)
   -- Fitting one more probe leaves all others in their order in the complete list.
