@@ -84,7 +84,6 @@ static void set_parts(const uint8_t *packet, size_t length, uint64_t *parts)
 
 uint8_t baseline_read(const uint8_t *packet, size_t length, uint64_t *parts)
 {
-    memset(parts, 0, 5 * sizeof *parts);
     if (length < 5 || length_of_form(packet) != length)
         return 13;
     if (packet[0] == 0x2D && packet[length - 3] == 0)
@@ -93,6 +92,7 @@ uint8_t baseline_read(const uint8_t *packet, size_t length, uint64_t *parts)
     uint16_t wanted = (uint16_t)~baseline_crc16(packet, length - 2);
     if (wanted != sent)
         return 14;
+    memset(parts, 0, 5 * sizeof *parts);
     set_parts(packet, length, parts);
     return 0;
 }

@@ -376,7 +376,7 @@ static void compare_reading(const struct packet *p, enum kind kind)
     uint64_t ours[PARTS], theirs[PARTS];
     before = *p;
     for (int i = 0; i < PARTS; i++)
-        ours[i] = random_number();
+        ours[i] = theirs[i] = random_number();
 
     uint8_t our_number = trial_read(p->bytes, p->length, ours);
     uint8_t their_number = reference_read(p->bytes, p->length, theirs);

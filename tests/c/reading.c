@@ -11,8 +11,6 @@
 
 static const uint64_t BESIDE = 0xA5A5A5A5A5A5A5A5; /* in the parts before a call, and around them */
 
-static const uint64_t no_parts[PARTS] = {0, 0, 0, 0, 0};
-
 /* Whether reading gives this number and these parts, and leaves the packet and what is beside. */
 static int reads_as(const uint8_t *packet, size_t length, uint8_t number, const uint64_t *parts)
 {
@@ -24,13 +22,17 @@ static int reads_as(const uint8_t *packet, size_t length, uint8_t number, const 
         memcpy(before, packet, length);
     if (trial_read(packet, length, got + 1) != number)
         return 0;
-    return memcmp(got + 1, parts, sizeof no_parts) == 0 && got[0] == BESIDE &&
+    return memcmp(got + 1, parts, PARTS * sizeof *parts) == 0 && got[0] == BESIDE &&
            got[PARTS + 1] == BESIDE && (length == 0 || memcmp(packet, before, length) == 0);
 }
 
+/* Whether reading gives this number and leaves the parts as they were. */
 static int is_refused(const uint8_t *packet, size_t length, uint8_t number)
 {
-    return reads_as(packet, length, number, no_parts);
+    uint64_t parts[PARTS];
+    for (int i = 0; i < PARTS; i++)
+        parts[i] = BESIDE;
+    return reads_as(packet, length, number, parts);
 }
 
 /* ---- Packets written out --------------------------------------------------------------------- */

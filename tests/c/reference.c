@@ -140,12 +140,12 @@ uint8_t reference_read(const uint8_t *packet, size_t length, uint64_t parts[5])
     int write = is_write(packet, length);
     int read = is_read(packet, length);
     int write_read = is_write_read(packet, length);
-    for (int i = 0; i < 5; i++)
-        parts[i] = 0;
     if (!write && !read && !write_read)
         return 13;
     if (!crc_is_right(packet, length))
         return 14;
+    for (int i = 0; i < 5; i++)
+        parts[i] = 0;
     parts[0] = packet[0];
     parts[1] = packet[1] / 2;
     if (!read) {

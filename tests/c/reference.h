@@ -18,7 +18,7 @@ uint8_t reference_form_read(uint32_t address, uint32_t count, uint8_t *buffer,
 uint8_t reference_form_write_read(uint32_t address, const uint8_t *data, size_t data_length,
                                   uint32_t count, uint8_t *buffer, size_t buffer_length);
 
-/* parts: code, address, start of the data, its length, R; all 0 where the packet is refused. */
+/* parts: code, address, start of the data, its length, R. A refused packet leaves them. */
 uint8_t reference_read(const uint8_t *packet, size_t length, uint64_t parts[5]);
 
 #endif

@@ -13,7 +13,7 @@ enum { PART_CODE, PART_ADDRESS, PART_START, PART_LENGTH, PART_COUNT, PARTS };
 
 /*
  * Returns 0 and sets the five parts: code, address, start of the data, its length, R. For 4Bh R is
- * 0; for 87h start and length are 0. Or returns 13 or 14, and sets all five to 0.
+ * 0; for 87h start and length are 0. Or returns 13 or 14, and leaves all five as they were.
  */
 uint8_t trial_read(const uint8_t *packet, size_t length, uint64_t *parts);
 

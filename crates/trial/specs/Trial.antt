@@ -1,9 +1,11 @@
 -- An answer of the reader as five numbers.
+--   numbersOf r d    the five numbers after the answer r, where they were d before
 use Prim.Native.Nat.{ℕ}
 use mathlib.Core.List.{List, [], _∷_}
 use Rattle.packet.specs.declared.Reading.{Reading}
 use Rattle.packet.specs.declared.Reading.the-variants.{Parts, Refused}
 
-abbrev pub numbersOf : Reading → List ℕ
-numbersOf (Parts c a b l r) = c ∷ a ∷ b ∷ l ∷ r ∷ []
-numbersOf (Refused n) = 0 ∷ 0 ∷ 0 ∷ 0 ∷ 0 ∷ []
+-- A refused call changes nothing that was lent.
+abbrev pub numbersOf : Reading → List ℕ → List ℕ
+numbersOf (Parts c a b l r) d = c ∷ a ∷ b ∷ l ∷ r ∷ []
+numbersOf (Refused n) d = d

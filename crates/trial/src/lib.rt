@@ -1,6 +1,6 @@
 // Reading under a C name, for the tests and the benchmark alone; the firmware's archive does not have it.
 //
-// The five parts are the code, the address, where the data starts, how long it is, and R; all are 0 for a refused packet.
+// The five parts are the code, the address, where the data starts, how long it is, and R; a refused packet leaves them as they were.
 ghost use mathlib.Core.Path.{_≡_};
 ghost use Rattle.packet.specs.Reading.{readingOf, numberOf};
 ghost use Rattle.trial.specs.Trial.{numbersOf};
@@ -9,7 +9,7 @@ use packet::Reading;
 #[no_mangle]
 pub extern "C" fn trial_read(packet: &[u8], parts: &mut [u64; 5]) -> u8
     ensures { λ r. ⌜ r ≡ numberOf (readingOf (now (packet .entry))) ⌝ }
-    ensures { λ _. ⌜ now (parts .exit) ≡ numbersOf (readingOf (now (packet .entry))) ⌝ }
+    ensures { λ _. ⌜ now (parts .exit) ≡ numbersOf (readingOf (now (packet .entry))) (now (parts .entry)) ⌝ }
 {
     let reading = packet::read(packet);
     let Reading::Parts {
@@ -20,7 +20,6 @@ pub extern "C" fn trial_read(packet: &[u8], parts: &mut [u64; 5]) -> u8
         count,
     } = reading
     else {
-        *parts = [0, 0, 0, 0, 0];
         return reading.number();
     };
     *parts = [

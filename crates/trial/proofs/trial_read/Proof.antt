@@ -1,5 +1,6 @@
--- `trial::trial_read` meets its contract: each way of the reading says which numbers the parts are.
+-- `trial::trial_read` meets its contract: each way of the reading says which numbers the parts are, and a refusal that they are those at entry.
 use mathlib.Core.Path.{sym, ap, _∙_}
+use Rattle.packet.specs.declared.Reading.{Reading}
 use Rattle.packet.specs.Reading.{numberOf}
 use Rattle.trial.specs.Trial.{numbersOf}
 use borrow.Author.Needs.{needs}
@@ -20,10 +21,11 @@ number-requires c κs = search needs
 
 returns : tie.Need-returns
 returns c =
-    let e = c .before .before in
+    let e = c .before in
     let r = e .before .before in
     let q = r .read .ensures in
-    (c .number .ensures ∙ ap numberOf q, sym (ap numbersOf (sym q ∙ e .enum-told .given .1)))
+    let d = r .before .before .args .parts .now in
+    (c .number .ensures ∙ ap numberOf q, sym (ap (λ (x : Reading). numbersOf x d) (sym q ∙ e .enum-told .given .1)))
 
 cast-t9 : tie.Need-cast-t9
 cast-t9 c = search needs
@@ -39,7 +41,8 @@ returns-2 c =
     let e = c .before .before in
     let r = e .before .before in
     let q = sym (r .read .ensures) ∙ e .reading .given .1 in
-    (sym (ap numberOf q), sym (ap numbersOf q))
+    let d = r .before .before .args .parts .now in
+    (sym (ap numberOf q), sym (ap (λ (x : Reading). numbersOf x d) q))
 
 pub trial-read-spec : {M : Type 1} → statement M
 trial-read-spec =
