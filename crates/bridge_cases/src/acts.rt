@@ -194,7 +194,7 @@ fn step(bridge: Bridge, case: &[u8], i: usize) -> Bridge
     act(bridge, letter, &case[from..i])
 }
 
-pub fn run(bridge: Bridge, case: &[u8]) -> Bridge {
+pub(crate) fn run(bridge: Bridge, case: &[u8]) -> Bridge {
     let mut b = bridge;
     let mut i = 0;
     while i < case.len() {

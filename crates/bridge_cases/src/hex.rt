@@ -28,7 +28,7 @@ fn digit(out: &mut [u8], k: usize, c: u8) -> usize
 }
 
 // Puts as many bytes at the start of out as it has room for, and answers how many.
-pub fn decode(text: &[u8], out: &mut [u8]) -> usize
+pub(crate) fn decode(text: &[u8], out: &mut [u8]) -> usize
     ensures { λ r. ⌜ Counts r (now (out .exit)) ⌝ }
 {
     let mut k = 0;

@@ -1,15 +1,15 @@
 // What the cases print with: text, hexadecimal bytes and decimal numbers on standard output.
 use libc::STDOUT_FILENO;
 
-pub fn text(s: &[u8]) {
+pub(crate) fn text(s: &[u8]) {
     io::write_all(STDOUT_FILENO, s);
 }
 
-pub fn end() {
+pub(crate) fn end() {
     text(b"\n");
 }
 
-pub fn number(n: u8) {
+pub(crate) fn number(n: u8) {
     io::print_decimal(STDOUT_FILENO, n as u64);
 }
 
@@ -17,18 +17,18 @@ fn digit(n: u8) -> u8 {
     if n < 10 { b'0' + n } else { b'A' - 10 + n % 16 }
 }
 
-pub fn byte(x: u8) {
+pub(crate) fn byte(x: u8) {
     let digits = [digit(x / 16), digit(x % 16)];
     text(&digits);
 }
 
-pub fn spaced(x: u8) {
+pub(crate) fn spaced(x: u8) {
     text(b" ");
     byte(x);
 }
 
 // Each byte with a space before it.
-pub fn bytes(s: &[u8]) {
+pub(crate) fn bytes(s: &[u8]) {
     let mut i = 0;
     while i < s.len() {
         spaced(s[i]);

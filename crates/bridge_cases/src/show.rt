@@ -60,7 +60,7 @@ fn probe(line: Line, i: usize) {
 }
 
 // The probes of the first three places, as far as they are fitted.
-pub fn probes(bridge: Bridge) -> Bridge {
+pub(crate) fn probes(bridge: Bridge) -> Bridge {
     let line = bridge.line;
     probe(line, 0);
     probe(line, 1);

@@ -6,11 +6,11 @@ fn with(bridge: Bridge, id: &[u8; 8]) -> Bridge {
     bridge.fit(id).bridge
 }
 
-pub fn of_two(first: &[u8; 8], second: &[u8; 8]) -> Bridge {
+pub(crate) fn of_two(first: &[u8; 8], second: &[u8; 8]) -> Bridge {
     with(with(Bridge::power_on(), first), second)
 }
 
-pub fn of_three(first: &[u8; 8], second: &[u8; 8], third: &[u8; 8]) -> Bridge {
+pub(crate) fn of_three(first: &[u8; 8], second: &[u8; 8], third: &[u8; 8]) -> Bridge {
     with(of_two(first, second), third)
 }
 
@@ -19,7 +19,7 @@ fn with_numbered(bridge: Bridge, n: u8) -> Bridge {
     with(bridge, &id)
 }
 
-pub fn of_64() -> Bridge {
+pub(crate) fn of_64() -> Bridge {
     let mut bridge = Bridge::power_on();
     let mut n: u8 = 0;
     while n < 64 {
@@ -40,19 +40,19 @@ fn rom(bridge: Bridge, code: u8) -> Bridge {
     command(command(bridge, b"\xB4"), &bytes)
 }
 
-pub fn with_pending(bridge: Bridge) -> Bridge {
+pub(crate) fn with_pending(bridge: Bridge) -> Bridge {
     rom(bridge, probe::SEARCH_ROM).write(b"\x78\x80").bridge
 }
 
-pub fn skipped(bridge: Bridge) -> Bridge {
+pub(crate) fn skipped(bridge: Bridge) -> Bridge {
     rom(bridge, probe::SKIP_ROM)
 }
 
-pub fn resumed(bridge: Bridge) -> Bridge {
+pub(crate) fn resumed(bridge: Bridge) -> Bridge {
     rom(bridge, probe::RESUME)
 }
 
-pub fn configured(bridge: Bridge) -> Bridge {
+pub(crate) fn configured(bridge: Bridge) -> Bridge {
     command(command(bridge, b"\x96"), b"\xD2\xE1")
 }
 
@@ -61,7 +61,7 @@ fn triplet(bridge: Bridge) -> Bridge {
 }
 
 // Ten triplets of a pass that takes 1 where it can.
-pub fn in_a_pass(bridge: Bridge) -> Bridge {
+pub(crate) fn in_a_pass(bridge: Bridge) -> Bridge {
     let mut b = rom(bridge, probe::SEARCH_ROM);
     let mut k: u8 = 0;
     while k < 10 {

@@ -14,7 +14,7 @@ pub const LOW: [u8; 8] = [0x19, 0x01, 0, 0, 0, 0, 0x00, 0x00];
 pub const HIGH: [u8; 8] = [0x19, 0x01, 0, 0, 0, 0, 0x80, 0x8C];
 
 // One of many IDs that have little in common.
-pub fn numbered(n: u8) -> [u8; 8] {
+pub(crate) fn numbered(n: u8) -> [u8; 8] {
     let k = n as u64;
     let first = [
         n % 64 + 1,

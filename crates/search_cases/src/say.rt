@@ -1,20 +1,20 @@
 // What the cases print with: text, decimal numbers and bytes on standard output.
 use libc::STDOUT_FILENO;
 
-pub fn text(s: &[u8]) {
+pub(crate) fn text(s: &[u8]) {
     io::write_all(STDOUT_FILENO, s);
 }
 
-pub fn number(n: usize) {
+pub(crate) fn number(n: usize) {
     io::print_decimal(STDOUT_FILENO, n as u64);
 }
 
-pub fn byte(x: u8) {
+pub(crate) fn byte(x: u8) {
     io::print_hex(STDOUT_FILENO, x as u64, 2);
 }
 
 // Eight bytes in a row, then a space.
-pub fn grouped(s: &[u8]) {
+pub(crate) fn grouped(s: &[u8]) {
     let mut n = 0;
     while n < s.len() {
         if n % 8 == 0 {

@@ -63,7 +63,7 @@ fn front(list: &[u8], n: usize) {
     say::text(b"\n");
 }
 
-pub fn search(title: &[u8], bridge: Bridge, b: u16) -> Bridge {
+pub(crate) fn search(title: &[u8], bridge: Bridge, b: u16) -> Bridge {
     let mut list = blank();
     let searched = search::search(bridge, b, &mut list);
     let count = outcome(title, searched);
@@ -120,7 +120,7 @@ fn in_order(list: &[u8; 512], count: usize) -> usize {
 }
 
 // The first and the last of the IDs, and how many of them come before the one after them.
-pub fn ends(title: &[u8], bridge: Bridge, b: u16) {
+pub(crate) fn ends(title: &[u8], bridge: Bridge, b: u16) {
     let mut list = blank();
     let searched = search::search(bridge, b, &mut list);
     let count = outcome(title, searched);
@@ -147,7 +147,7 @@ fn searched_within(bridge: Bridge, b: u16, list: &mut [u8], room: usize) -> Sear
 }
 
 // A search whose list is the first bytes of a buffer, of which the first 40 are shown.
-pub fn room(title: &[u8], bridge: Bridge, b: u16, room: usize) {
+pub(crate) fn room(title: &[u8], bridge: Bridge, b: u16, room: usize) {
     let mut buffer = blank();
     let searched = searched_within(bridge, b, &mut buffer, room);
     outcome(title, searched);
@@ -187,7 +187,7 @@ fn all_selected(line: Line) {
 }
 
 // The probes that a Resume selects after the search.
-pub fn resumed(title: &[u8], bridge: Bridge, b: u16) {
+pub(crate) fn resumed(title: &[u8], bridge: Bridge, b: u16) {
     let mut list = blank();
     let searched = search::search(bridge, b, &mut list);
     let after = lines::resumed(searched.bridge);
