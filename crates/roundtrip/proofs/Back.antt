@@ -1,5 +1,6 @@
 -- Reading a packet just formed gives the request that made it.
 --   longest         the packet of a request within its limits has at most 261 bytes
+--   longest-is      and a write-read of 255 bytes has so many
 --   sealed-true     a body with its checksum behind it is sealed
 --   back            the reader's answer for the packet of a request within its limits
 --   request-back    the request that this answer stands for in that packet is the very request, its data included
@@ -36,6 +37,9 @@ longest (writeRead a s r) g =
     let t : Bool = goodAddress a && goodCount (length s) in
     let f : t ≡ true = left-true t (goodCount r) g in
     omega (arith, length-writeRead a s r, count-of (length s) (right-true (goodAddress a) (goodCount (length s)) f) .1)
+
+pub longest-is : (a : ℕ) (s : List ℕ) (r : ℕ) → length s ≡ 255 → length (packetOf (writeRead a s r)) ≡ 261
+longest-is a s r e = omega (arith, length-writeRead a s r)
 
 -- ---- the checksum
 
