@@ -3,7 +3,7 @@
 --   put-more            what is put behind a text joins it
 --   put-same            by another name of the text
 --   put-front           text at the front of the buffer
---   put-one, -two, -three       one store, two and three
+--   put-two, put-three  two stores, and three
 --   digits-one, digits-pair     a number of one digit, and of two
 --   digits-hundreds     a number of more: what stands before its last two digits, and those
 --   length-decimal      five digits at most
@@ -40,9 +40,6 @@ put-more {d} {e} {f} {k} {r} {q} {t} {u} p n =
 
 pub put-same : {d e : List ℕ} {k r : ℕ} {t u : List ℕ} → Put d e k r t → t ≡ u → Put d e k r u
 put-same {d} {e} {k} {r} p same = subst (λ (x : List ℕ). Put d e k r x) same p
-
-pub put-one : (d : List ℕ) (k a : ℕ) → Put d (set d k a) k (k + 1) (a ∷ [])
-put-one d k a = record { content = refl; end = refl }
 
 pub put-two : (d : List ℕ) (k a b : ℕ) → Put d (set (set d k a) (k + 1) b) k (k + 2) (a ∷ b ∷ [])
 put-two d k a b = record { content = ap (λ (j : ℕ). set (set d k a) j b) (add-one k); end = refl }
