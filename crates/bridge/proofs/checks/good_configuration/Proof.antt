@@ -1,16 +1,17 @@
 -- `checks::good_configuration` meets its contract, byte by byte.
 use Rattle.bridge.specs.Bridge.{goodParameter}
+use mathlib.Core.Path.{sym, ap}
 use borrow.Author.Tests.{ne-eqb}
 use Rattle.bridge.proofs.checks.good_configuration.Statement.{statement}
 use Rattle.bridge.proofs.checks.good_configuration.Tie as tie
 
 returns : tie.Need-returns
 unfolding goodParameter
-returns c = cc
+returns c = sym (ap (goodParameter 0xD2) (c .match .keys1))
 
 returns-2 : tie.Need-returns-2
 unfolding goodParameter
-returns-2 c = cc
+returns-2 c = sym (ap (goodParameter 0xD2) (c .match .keys2))
 
 returns-3 : tie.Need-returns-3
 unfolding goodParameter
