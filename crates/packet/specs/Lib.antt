@@ -1,3 +1,1 @@
-pub mod Buffer
 pub mod Request
-pub mod Reading

@@ -1,18 +1,13 @@
--- Packets for the DS28E17, and forming them (document 01, "Packets" and "Numbers returned").
+-- Packets for the DS28E17 (document 01, "Packets").
 --   Request           what a packet asks of the chip, one case for each form
 --   bodyOf q          the bytes of its packet before the checksum
---   sealOf s          the checksum as it is sent behind the bytes s
+--   invertedOf s      the CRC-16 as it is sent behind the bytes s
+--   sealOf s          and its two bytes
 --   packetOf q        the packet
---   inLimits q        address and counts are within their limits
---   formNumber q d    the number that forming q in the buffer d gives
---   formed q d        the buffer afterwards
 use Prim.Native.Nat.{ℕ, _+_, _-_, _*_, _/_, _%_}
-use mathlib.Core.Bool.{Bool, cond, _&&_}
 use mathlib.Core.List.{List, [], _∷_, _++_}
-use lib.Dec.{eqb, leb}
 use lib.ListN.{length}
 use Rattle.checksum.specs.Register.{crc16Of}
-use Rattle.packet.specs.Buffer.{over}
 
 -- Writing data to an address; reading so many bytes from one; writing, then reading.
 pub data Request : Type 0 where
@@ -37,27 +32,3 @@ sealOf s = (invertedOf s % 256) ∷ (invertedOf s / 256) ∷ []
 -- Each packet ends with the CRC-16 over all bytes before it.
 unfoldable pub packetOf : Request → List ℕ
 packetOf q = bodyOf q ++ sealOf (bodyOf q)
-
--- An address is at most 127.
-abbrev pub goodAddress : ℕ → Bool
-goodAddress a = leb a 127
-
--- L and R go from 1 to 255.
-abbrev pub goodCount : ℕ → Bool
-goodCount n = leb 1 n && leb n 255
-
-unfoldable pub inLimits : Request → Bool
-inLimits (write a d) = goodAddress a && goodCount (length d)
-inLimits (read a r) = goodAddress a && goodCount r
-inLimits (writeRead a d r) = goodAddress a && goodCount (length d) && goodCount r
-
--- 11 if the address is above 127 or a count is not 1 to 255, then 12 if the buffer is too short, else 0.
-abbrev pub numberFor : Bool → ℕ → ℕ → ℕ
-numberFor good wanted room = cond good (cond (leb wanted room) 0 12) 11
-
-unfoldable pub formNumber : Request → List ℕ → ℕ
-formNumber q d = numberFor (inLimits q) (length (packetOf q)) (length d)
-
--- Bytes behind the packet stay; a refused call changes no byte.
-unfoldable pub formed : Request → List ℕ → List ℕ
-formed q d = cond (eqb (formNumber q d) 0) (over (packetOf q) d) d

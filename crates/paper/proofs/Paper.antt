@@ -7,9 +7,9 @@ use native.Mathlib.Omega.{arith}
 use Rattle.checksum.specs.Register.{crc8Of, crc16Of, crcFrom, entered, shifts, shifted, taps, taps8, taps16}
 use Rattle.identity.specs.Identity.{numberOf, bitOf, crcRight, familyOf, refusalOf}
 use Rattle.enumeration.specs.Order.{Before, Among, InOrder}
-use Rattle.packet.specs.declared.Reading.the-variants.{Refused}
+use Rattle.reading.specs.declared.Reading.the-variants.{Refused}
 use Rattle.packet.specs.Request.{read, bodyOf, invertedOf, sealOf, packetOf}
-use Rattle.packet.specs.Reading.{readForm, formOf, isSealed, checked, readingOf}
+use Rattle.reading.specs.Reading.{readForm, formOf, isSealed, checked, readingOf}
 use Rattle.paper.proofs.Wire.{p9-refused, p9-accepted, p9-read, p10, p11}
 use Rattle.paper.specs.Paper.{Paper, a, b, c}
 

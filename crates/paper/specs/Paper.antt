@@ -11,9 +11,9 @@ use lib.ListN.{take}
 use Rattle.checksum.specs.Register.{crc8Of}
 use Rattle.identity.specs.Identity.{numberOf, refusalOf}
 use Rattle.enumeration.specs.Order.{InOrder}
-use Rattle.packet.specs.declared.Reading.the-variants.{Refused}
+use Rattle.reading.specs.declared.Reading.the-variants.{Refused}
 use Rattle.packet.specs.Request.{read, packetOf}
-use Rattle.packet.specs.Reading.{readingOf}
+use Rattle.reading.specs.Reading.{readingOf}
 use Rattle.bridge.specs.declared.Bridge.{Bridge}
 use Rattle.bridge.specs.Bridge.{powerOn, readOf, busy, writeNumber, afterWrite, afterFitting, command}
 

@@ -5,7 +5,7 @@
 --   again-formed, again-refused    what forming the parts again gives
 --   request-write, request-read, request-writeRead    the request by the code of the parts
 use mathlib.Core.Path.{_≡_, refl, sym, ap, ap₂, subst, _∙_}
-use mathlib.Core.Bool.{Bool, true, false, cond, _&&_}
+use mathlib.Core.Bool.{Bool, true, false, cond, _&&_, and-eq-true-iff}
 use mathlib.Core.List.{List, [], _∷_, _++_}
 use Prim.Native.Nat.{ℕ, suc, _+_, _-_, _*_, _/_, _%_, _<_, _≤_}
 use native.Mathlib.Numerals.{add-one}
@@ -14,12 +14,12 @@ use borrow.Author.Tests.{eq-eqb, ne-eqb, le-leb, eqb-true, leb-true}
 use lib.Dec.{eqb, leb}
 use lib.ListN.{length, getD, take, drop, length-drop, take-append-drop}
 use lib.Seq.{length-take-le, drop-cons, drop-length, take-suc}
-use Rattle.packet.specs.declared.Reading.{Reading}
-use Rattle.packet.specs.declared.Reading.the-variants.{Parts, Refused}
-use Rattle.packet.specs.Request.{Request, write, read, writeRead, bodyOf, invertedOf, sealOf, packetOf, goodAddress, goodCount, inLimits, formNumber, formed}
-use Rattle.packet.specs.Reading.{noForm, codeOf, addressByte, countByte, writeForm, readForm, writeReadForm, formOf, isSealed, checked, readingOf, requestIn}
-use Rattle.packet.specs.Buffer.{over}
-use Rattle.packet.proofs.Limits.{left-true, right-true}
+use Rattle.reading.specs.declared.Reading.{Reading}
+use Rattle.reading.specs.declared.Reading.the-variants.{Parts, Refused}
+use Rattle.packet.specs.Request.{Request, write, read, writeRead, bodyOf, invertedOf, sealOf, packetOf}
+use Rattle.forming.specs.Forming.{goodAddress, goodCount, inLimits, formNumber, formed}
+use Rattle.reading.specs.Reading.{noForm, codeOf, addressByte, countByte, writeForm, readForm, writeReadForm, formOf, isSealed, checked, readingOf, requestIn}
+use Rattle.forming.specs.Buffer.{over}
 use Rattle.roundtrip.specs.RoundTrip.{againFor, againNumber, againIn, formedAgain}
 
 -- ---- the checksum
@@ -33,8 +33,8 @@ sealed-split p n h s =
     let at : length p - 2 ≡ n = omega arith in
     let t : (eqb (getD p n 0) low && eqb (getD p (n + 1) 0) high) ≡ true
     = subst (λ (k : ℕ). (eqb (getD p k 0) (invertedOf (take k p) % 256) && eqb (getD p (k + 1) 0) (invertedOf (take k p) / 256)) ≡ true) at s in
-    let first : getD p n 0 ≡ low = eqb-true (getD p n 0) low (left-true (eqb (getD p n 0) low) (eqb (getD p (n + 1) 0) high) t) in
-    let second : getD p (n + 1) 0 ≡ high = eqb-true (getD p (n + 1) 0) high (right-true (eqb (getD p n 0) low) (eqb (getD p (n + 1) 0) high) t) in
+    let first : getD p n 0 ≡ low = eqb-true (getD p n 0) low (and-eq-true-iff (eqb (getD p n 0) low) (eqb (getD p (n + 1) 0) high) .0 t .0) in
+    let second : getD p (n + 1) 0 ≡ high = eqb-true (getD p (n + 1) 0) high (and-eq-true-iff (eqb (getD p n 0) low) (eqb (getD p (n + 1) 0) high) .0 t .1) in
     let next : getD p (suc n) 0 ≡ high = ap (λ (k : ℕ). getD p k 0) (sym (add-one n)) ∙ second in
     let tail : drop n p ≡ getD p n 0 ∷ getD p (suc n) 0 ∷ drop (suc (suc n)) p
     = drop-cons p n 0 (omega arith) ∙ ap (λ (l : List ℕ). getD p n 0 ∷ l) (drop-cons p (suc n) 0 (omega arith)) in
@@ -67,11 +67,11 @@ head-of p low wanted t =
     let a : Bool = eqb (addressByte p % 2) low in
     let b : Bool = leb 1 (countByte p) in
     let c : Bool = eqb (length p) wanted in
-    let l = left-true (a && b) c t in
+    let l = and-eq-true-iff (a && b) c .0 t .0 in
     record {
-      bit = eqb-true (addressByte p % 2) low (left-true a b l);
-      some = leb-true 1 (countByte p) (right-true a b l);
-      long = eqb-true (length p) wanted (right-true (a && b) c t);
+      bit = eqb-true (addressByte p % 2) low (and-eq-true-iff a b .0 l .0);
+      some = leb-true 1 (countByte p) (and-eq-true-iff a b .0 l .1);
+      long = eqb-true (length p) wanted (and-eq-true-iff (a && b) c .0 t .1);
     }
 
 body-write : (p : List ℕ) → codeOf p ≡ 0x4B → Head p 0 (countByte p + 5) → take (countByte p + 3) p ≡ bodyOf (write (addressByte p / 2) (take (countByte p) (drop 3 p)))
@@ -173,12 +173,12 @@ module _ (p : List ℕ) (bytes : Bytes p) (s : isSealed p ≡ true) where
       let u : Bool = eqb (addressByte p % 2) 0 && leb 1 (countByte p) && eqb (length p) (countByte p + 6) in
       again-when (u && leb 1 r) (Parts 0x2D (addressByte p / 2) 3 (countByte p) r)
       (λ t.
-      let h = head-of p 0 (countByte p + 6) (left-true u (leb 1 r) t) in
+      let h = head-of p 0 (countByte p + 6) (and-eq-true-iff u (leb 1 r) .0 t .0) in
       let w = h .long in (
         ap₂ _&&_
             (ap₂ _&&_ (address-limit (addressByte p) (bytes 1))
             (ap goodCount (data-size (countByte p) (omega arith)) ∙ count-limit (countByte p) (h .some) (bytes 2)))
-            (count-limit r (leb-true 1 r (right-true u (leb 1 r) t)) (bytes (countByte p + 3))),
+            (count-limit r (leb-true 1 r (and-eq-true-iff u (leb 1 r) .0 t .1)) (bytes (countByte p + 3))),
         rejoined p (writeRead (addressByte p / 2) (take (countByte p) (drop 3 p)) r) (countByte p + 4) (omega arith) s
             (body-writeRead p c h),
       ))

@@ -8,7 +8,7 @@
 --   back-refused    a request that is refused
 --   fits-formed     the packet fits the buffer that it was formed in
 use mathlib.Core.Path.{_≡_, refl, sym, ap, ap₂, _∙_}
-use mathlib.Core.Bool.{Bool, true, cond, _&&_}
+use mathlib.Core.Bool.{Bool, true, cond, _&&_, and-eq-true-iff}
 use mathlib.Core.List.{List, [], _∷_, _++_, append-assoc}
 use Prim.Native.Nat.{ℕ, _+_, _-_, _*_, _/_, _%_, _≤_}
 use native.Mathlib.Omega.{arith}
@@ -16,27 +16,28 @@ use borrow.Author.Tests.{eq-eqb, ne-eqb, le-leb}
 use lib.Dec.{eqb}
 use lib.ListN.{length, getD, take, length-append}
 use lib.Seq.{take-append-seam, getD-append-seam, getD-append-add}
-use Rattle.packet.specs.declared.Reading.{Reading}
-use Rattle.packet.specs.declared.Reading.the-variants.{Refused}
-use Rattle.packet.specs.Request.{Request, write, read, writeRead, bodyOf, invertedOf, sealOf, packetOf, goodAddress, goodCount, inLimits, formNumber, formed}
-use Rattle.packet.specs.Reading.{writeForm, readForm, writeReadForm, formOf, isSealed, checked, readingOf, partsOf, requestIn}
-use Rattle.packet.specs.Buffer.{over}
-use Rattle.packet.proofs.Limits.{left-true, right-true, count-of, good-of, room-of}
-use Rattle.packet.proofs.Buffer.{take-over}
+use Rattle.reading.specs.declared.Reading.{Reading}
+use Rattle.reading.specs.declared.Reading.the-variants.{Refused}
+use Rattle.packet.specs.Request.{Request, write, read, writeRead, bodyOf, invertedOf, sealOf, packetOf}
+use Rattle.forming.specs.Forming.{goodAddress, goodCount, inLimits, formNumber, formed}
+use Rattle.reading.specs.Reading.{writeForm, readForm, writeReadForm, formOf, isSealed, checked, readingOf, partsOf, requestIn}
+use Rattle.forming.specs.Buffer.{over}
+use Rattle.forming.proofs.Limits.{count-of, good-of, room-of}
+use Rattle.forming.proofs.Buffer.{take-over}
 use Rattle.roundtrip.specs.RoundTrip.{readBack}
-use Rattle.packet.proofs.Forming.{length-write, length-read, length-writeRead}
+use Rattle.forming.proofs.Forming.{length-write, length-read, length-writeRead}
 
 -- ---- the length
 
 pub longest : (q : Request) → inLimits q ≡ true → length (packetOf q) ≤ 261
 unfolding inLimits
 longest (write a s) g =
-    omega (arith, length-write a s, count-of (length s) (right-true (goodAddress a) (goodCount (length s)) g) .1)
+    omega (arith, length-write a s, count-of (length s) (and-eq-true-iff (goodAddress a) (goodCount (length s)) .0 g .1) .1)
 longest (read a r) g = omega (arith, length-read a r)
 longest (writeRead a s r) g =
     let t : Bool = goodAddress a && goodCount (length s) in
-    let f : t ≡ true = left-true t (goodCount r) g in
-    omega (arith, length-writeRead a s r, count-of (length s) (right-true (goodAddress a) (goodCount (length s)) f) .1)
+    let f : t ≡ true = and-eq-true-iff t (goodCount r) .0 g .0 in
+    omega (arith, length-writeRead a s r, count-of (length s) (and-eq-true-iff (goodAddress a) (goodCount (length s)) .0 f .1) .1)
 
 pub longest-is : (a : ℕ) (s : List ℕ) (r : ℕ) → length s ≡ 255 → length (packetOf (writeRead a s r)) ≡ 261
 longest-is a s r e = omega (arith, length-writeRead a s r)
@@ -98,12 +99,12 @@ form-writeRead a s r g f =
 
 form-of : (q : Request) → inLimits q ≡ true → formOf (packetOf q) ≡ partsOf q
 unfolding inLimits
-form-of (write a s) g = form-write a s (right-true (goodAddress a) (goodCount (length s)) g)
-form-of (read a r) g = form-read a r (right-true (goodAddress a) (goodCount r) g)
+form-of (write a s) g = form-write a s (and-eq-true-iff (goodAddress a) (goodCount (length s)) .0 g .1)
+form-of (read a r) g = form-read a r (and-eq-true-iff (goodAddress a) (goodCount r) .0 g .1)
 form-of (writeRead a s r) g =
     let t : Bool = goodAddress a && goodCount (length s) in
-    form-writeRead a s r (right-true (goodAddress a) (goodCount (length s)) (left-true t (goodCount r) g))
-    (right-true t (goodCount r) g)
+    form-writeRead a s r (and-eq-true-iff (goodAddress a) (goodCount (length s)) .0 (and-eq-true-iff t (goodCount r) .0 g .0) .1)
+    (and-eq-true-iff t (goodCount r) .0 g .1)
 
 -- ---- the answer
 

@@ -7,11 +7,12 @@ use mathlib.Core.Bool.{cond}
 use mathlib.Core.List.{List}
 use lib.Dec.{eqb, leb}
 use lib.ListN.{length}
-use Rattle.packet.specs.declared.Reading.{Reading}
-use Rattle.packet.specs.declared.Reading.the-variants.{Parts, Refused}
-use Rattle.packet.specs.Buffer.{over}
-use Rattle.packet.specs.Request.{Request, formNumber}
-use Rattle.packet.specs.Reading.{readingOf, partsOf}
+use Rattle.reading.specs.declared.Reading.{Reading}
+use Rattle.reading.specs.declared.Reading.the-variants.{Parts, Refused}
+use Rattle.forming.specs.Buffer.{over}
+use Rattle.packet.specs.Request.{Request}
+use Rattle.forming.specs.Forming.{formNumber}
+use Rattle.reading.specs.Reading.{readingOf, partsOf}
 
 -- Reading a packet just formed gives the parts of the request that made it, the data as start and length; a refused request is refused
 -- with the number that forming gave. That these parts of that packet stand for the very request is the law `request-back`.

@@ -1,47 +1,48 @@
-// Forming and reading are each other's inverse (demand 2), as proved statements about the functions of the crate packet.
+// Forming and reading are each other's inverse (demand 2), as proved statements about the functions of those two crates.
 //
 // Each of the first three functions forms a packet and reads it, and gives the parts of the very request; the last reads a packet and
 // forms its parts, and gives the very bytes.
 //
 // Worked example: 87 41 02 FE 47, taken apart and formed again in a buffer of 5 bytes, is 87 41 02 FE 47.
 ghost use mathlib.Core.Path.{_≡_};
-ghost use Rattle.packet.specs.Request.{write, read, writeRead, formed};
+ghost use Rattle.packet.specs.Request.{write, read, writeRead};
+ghost use Rattle.forming.specs.Forming.{formed};
 ghost use Rattle.roundtrip.specs.RoundTrip.{readBack, againNumber, formedAgain};
-use packet::Reading;
+use reading::Reading;
 
 pub fn read_back_write(address: u32, data: &[u8], buffer: &mut [u8]) -> Reading
     ensures { λ r. ⌜ r ≡ readBack (write address (now («data» .entry))) (now (buffer .entry)) ⌝ }
     ensures { λ _. ⌜ now (buffer .exit) ≡ formed (write address (now («data» .entry))) (now (buffer .entry)) ⌝ }
 {
-    let number = packet::form_write(address, data, buffer);
+    let number = forming::form_write(address, data, buffer);
     if number != 0 {
         return Reading::Refused { number };
     }
     let end = data.len() + 5;
-    packet::read(&buffer[..end])
+    reading::read(&buffer[..end])
 }
 
 pub fn read_back_read(address: u32, count: u32, buffer: &mut [u8]) -> Reading
     ensures { λ r. ⌜ r ≡ readBack (read address count) (now (buffer .entry)) ⌝ }
     ensures { λ _. ⌜ now (buffer .exit) ≡ formed (read address count) (now (buffer .entry)) ⌝ }
 {
-    let number = packet::form_read(address, count, buffer);
+    let number = forming::form_read(address, count, buffer);
     if number != 0 {
         return Reading::Refused { number };
     }
-    packet::read(&buffer[..5])
+    reading::read(&buffer[..5])
 }
 
 pub fn read_back_write_read(address: u32, data: &[u8], count: u32, buffer: &mut [u8]) -> Reading
     ensures { λ r. ⌜ r ≡ readBack (writeRead address (now («data» .entry)) count) (now (buffer .entry)) ⌝ }
     ensures { λ _. ⌜ now (buffer .exit) ≡ formed (writeRead address (now («data» .entry)) count) (now (buffer .entry)) ⌝ }
 {
-    let number = packet::form_write_read(address, data, count, buffer);
+    let number = forming::form_write_read(address, data, count, buffer);
     if number != 0 {
         return Reading::Refused { number };
     }
     let end = data.len() + 6;
-    packet::read(&buffer[..end])
+    reading::read(&buffer[..end])
 }
 
 // Forms the parts of a packet again; a packet that is not accepted hands its refusal on.
@@ -49,7 +50,7 @@ pub fn form_again(packet: &[u8], buffer: &mut [u8]) -> u8
     ensures { λ r. ⌜ r ≡ againNumber (now (packet .entry)) (now (buffer .entry)) ⌝ }
     ensures { λ _. ⌜ now (buffer .exit) ≡ formedAgain (now (packet .entry)) (now (buffer .entry)) ⌝ }
 {
-    let reading = packet::read(packet);
+    let reading = reading::read(packet);
     let Reading::Parts {
         code,
         address,
@@ -60,12 +61,12 @@ pub fn form_again(packet: &[u8], buffer: &mut [u8]) -> u8
     else {
         return reading.number();
     };
-    let data = packet::data_of(packet);
+    let data = reading::data_of(packet);
     if code == packet::WRITE {
-        return packet::form_write(address as u32, data, buffer);
+        return forming::form_write(address as u32, data, buffer);
     }
     if code == packet::READ {
-        return packet::form_read(address as u32, count as u32, buffer);
+        return forming::form_read(address as u32, count as u32, buffer);
     }
-    packet::form_write_read(address as u32, data, count as u32, buffer)
+    forming::form_write_read(address as u32, data, count as u32, buffer)
 }

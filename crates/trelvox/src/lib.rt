@@ -6,7 +6,8 @@
 // Worked example: trelvox_form_read(0x20, 2, buffer, 5) returns 0 and leaves 87 41 02 FE 47 in the buffer.
 ghost use mathlib.Core.Path.{_≡_};
 ghost use Rattle.checksum.specs.Register.{crc8Of, crc16Of};
-ghost use Rattle.packet.specs.Request.{write, read, writeRead, formNumber, formed};
+ghost use Rattle.packet.specs.Request.{write, read, writeRead};
+ghost use Rattle.forming.specs.Forming.{formNumber, formed};
 
 #[no_mangle]
 pub extern "C" fn trelvox_crc8(bytes: &[u8]) -> u8
@@ -27,7 +28,7 @@ pub extern "C" fn trelvox_form_write(address: u32, data: &[u8], buffer: &mut [u8
     ensures { λ r. ⌜ r ≡ formNumber (write address (now («data» .entry))) (now (buffer .entry)) ⌝ }
     ensures { λ _. ⌜ now (buffer .exit) ≡ formed (write address (now («data» .entry))) (now (buffer .entry)) ⌝ }
 {
-    packet::form_write(address, data, buffer)
+    forming::form_write(address, data, buffer)
 }
 
 #[no_mangle]
@@ -35,7 +36,7 @@ pub extern "C" fn trelvox_form_read(address: u32, count: u32, buffer: &mut [u8])
     ensures { λ r. ⌜ r ≡ formNumber (read address count) (now (buffer .entry)) ⌝ }
     ensures { λ _. ⌜ now (buffer .exit) ≡ formed (read address count) (now (buffer .entry)) ⌝ }
 {
-    packet::form_read(address, count, buffer)
+    forming::form_read(address, count, buffer)
 }
 
 #[no_mangle]
@@ -48,5 +49,5 @@ pub extern "C" fn trelvox_form_write_read(
     ensures { λ r. ⌜ r ≡ formNumber (writeRead address (now («data» .entry)) count) (now (buffer .entry)) ⌝ }
     ensures { λ _. ⌜ now (buffer .exit) ≡ formed (writeRead address (now («data» .entry)) count) (now (buffer .entry)) ⌝ }
 {
-    packet::form_write_read(address, data, count, buffer)
+    forming::form_write_read(address, data, count, buffer)
 }

@@ -2,8 +2,8 @@
 --   numbersOf r d    the five numbers after the answer r, where they were d before
 use Prim.Native.Nat.{ℕ}
 use mathlib.Core.List.{List, [], _∷_}
-use Rattle.packet.specs.declared.Reading.{Reading}
-use Rattle.packet.specs.declared.Reading.the-variants.{Parts, Refused}
+use Rattle.reading.specs.declared.Reading.{Reading}
+use Rattle.reading.specs.declared.Reading.the-variants.{Parts, Refused}
 
 -- A refused call changes nothing that was lent.
 abbrev pub numbersOf : Reading → List ℕ → List ℕ

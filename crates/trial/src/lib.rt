@@ -2,16 +2,16 @@
 //
 // The five parts are the code, the address, where the data starts, how long it is, and R; a refused packet leaves them as they were.
 ghost use mathlib.Core.Path.{_≡_};
-ghost use Rattle.packet.specs.Reading.{readingOf, numberOf};
+ghost use Rattle.reading.specs.Reading.{readingOf, numberOf};
 ghost use Rattle.trial.specs.Trial.{numbersOf};
-use packet::Reading;
+use reading::Reading;
 
 #[no_mangle]
 pub extern "C" fn trial_read(packet: &[u8], parts: &mut [u64; 5]) -> u8
     ensures { λ r. ⌜ r ≡ numberOf (readingOf (now (packet .entry))) ⌝ }
     ensures { λ _. ⌜ now (parts .exit) ≡ numbersOf (readingOf (now (packet .entry))) (now (parts .entry)) ⌝ }
 {
-    let reading = packet::read(packet);
+    let reading = reading::read(packet);
     let Reading::Parts {
         code,
         address,

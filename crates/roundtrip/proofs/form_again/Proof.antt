@@ -4,10 +4,11 @@ use mathlib.Core.List.{List}
 use Prim.Native.Nat.{ℕ}
 use native.Mathlib.Omega.{arith}
 use lib.ListN.{take, drop}
-use Rattle.packet.specs.declared.Reading.{Reading}
-use Rattle.packet.specs.declared.Reading.the-variants.{Parts}
-use Rattle.packet.specs.Request.{Request, write, read, writeRead, formNumber, formed}
-use Rattle.packet.specs.Reading.{readingOf, numberOf, dataIn, requestIn}
+use Rattle.reading.specs.declared.Reading.{Reading}
+use Rattle.reading.specs.declared.Reading.the-variants.{Parts}
+use Rattle.packet.specs.Request.{Request, write, read, writeRead}
+use Rattle.forming.specs.Forming.{formNumber, formed}
+use Rattle.reading.specs.Reading.{readingOf, numberOf, dataIn, requestIn}
 use Rattle.roundtrip.specs.RoundTrip.{againNumber, formedAgain}
 use Rattle.roundtrip.proofs.Again.{again-formed, again-refused, request-write, request-read, request-writeRead}
 use borrow.Author.Needs.{needs}

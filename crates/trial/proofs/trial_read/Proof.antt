@@ -1,7 +1,7 @@
 -- `trial::trial_read` meets its contract: each way of the reading says which numbers the parts are, and a refusal that they are those at entry.
 use mathlib.Core.Path.{sym, ap, _∙_}
-use Rattle.packet.specs.declared.Reading.{Reading}
-use Rattle.packet.specs.Reading.{numberOf}
+use Rattle.reading.specs.declared.Reading.{Reading}
+use Rattle.reading.specs.Reading.{numberOf}
 use Rattle.trial.specs.Trial.{numbersOf}
 use borrow.Author.Needs.{needs}
 use Rattle.trial.proofs.trial_read.Statement.{statement}

@@ -1,0 +1,4 @@
+pub mod Buffer
+pub mod Limits
+pub mod Forming
+pub mod Unique
