@@ -6,8 +6,8 @@
 //
 // Worked example: 00 05 1F 04 6D 24 has five events. The first is 00 01 11110000, a write of the byte F0h; the second is 01, a read.
 ghost use mathlib.Core.Path.{_≡_};
-ghost use Prim.Native.Nat.{_/_, _%_, _<_, _≤_, min};
-ghost use lib.ListN.{length, getD};
+ghost use Prim.Native.Nat.{_/_, _%_, _≤_, min};
+ghost use lib.ListN.{length};
 ghost use Rattle.script.specs.Script.{numberAt, countOf, sizeFor, endOf, isPadded, isScript};
 ghost use Rattle.script.specs.Pair.{Pair};
 
@@ -29,16 +29,6 @@ pub const FIRST: usize = 16;
 // The most bits that are read at once: wherever they begin, they lie in two bytes.
 const WIDEST: u32 = 8;
 
-fn byte_at(script: &[u8], i: usize) -> u32
-    ensures { λ r. ⌜ (r ≡ getD (now (script .entry)) i 0) × (r < 256) ⌝ }
-{
-    if i < script.len() {
-        script[i] as u32
-    } else {
-        0
-    }
-}
-
 // The byte that a place is in and the byte behind it, as one number.
 fn pair_at(script: &[u8], place: usize) -> u32
     ensures { λ r. ⌜ Pair (now (script .entry)) (place / 8) r ⌝ }
@@ -48,7 +38,7 @@ fn pair_at(script: &[u8], place: usize) -> u32
     if next < script.len() {
         return (script[i] as u32) * 256 + script[next] as u32;
     }
-    byte_at(script, i) * 256
+    bytes::at(script, i) as u32 * 256
 }
 
 fn at_most_widest(n: u32) -> u32

@@ -46,8 +46,11 @@ returns c =
       fits = omega (arith, c .shared-slice-known3 .given i, c .shared-slice-known3 .given (i + 1));
     }
 
-byte-at-requires : tie.Need-byte-at-requires
-byte-at-requires c κs = search needs
+at-requires : tie.Need-at-requires
+at-requires c κs = search needs
+
+cast-result-3 : tie.Need-cast-result-3
+cast-result-3 c = search needs
 
 mul-result-2 : tie.Need-mul-result-2
 mul-result-2 c = search needs
@@ -58,7 +61,7 @@ returns-2 c =
     let i = c .before .before .before .args .place / 8 in
     let past : 0 ≡ getD s (i + 1) 0 = sym (List·getD-eq-default s 0 (c .before .if1 .left)) in
     record {
-      value = sym (add-zero (c .byte-at .result * 256)) ∙ ap₂ (λ (x y : ℕ). x * 256 + y) (c .byte-at .ensures .0) past;
+      value = sym (add-zero (c .at .result * 256)) ∙ ap₂ (λ (x y : ℕ). x * 256 + y) (c .at .ensures) past;
       second = omega arith;
       fits = omega arith;
     }
@@ -75,6 +78,7 @@ pair-at-spec =
     cast-result-2
     add-result
     returns
-    byte-at-requires
+    at-requires
+    cast-result-3
     mul-result-2
     returns-2)
