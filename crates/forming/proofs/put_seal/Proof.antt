@@ -4,7 +4,7 @@ use native.Mathlib.Omega.{arith}
 use native.Mathlib.Numerals.{add-one}
 use mathlib.Core.Path.{_≡_, sym, ap, _∙_}
 use mathlib.Core.List.{List, [], _∷_}
-use Prim.Native.Nat.{ℕ, _+_, _/_, _%_, _≤_}
+use Prim.Native.Nat.{ℕ, _+_, _/_, _%_, _<_, _≤_}
 use lib.ListN.{length, set, length-set}
 use lib.Seq.{length-take-le, sets-eq}
 use Rattle.forming.specs.Buffer.{placed}
@@ -36,7 +36,10 @@ add-buffer : tie.Need-add-buffer
 add-buffer c = search needs
 
 slice-write-buffer-2 : tie.Need-slice-write-buffer-2
-slice-write-buffer-2 c = simp length-set (omega arith)
+slice-write-buffer-2 c =
+    let a = c .before .before .before .args in
+    let room : a .place + 1 < length (a .buffer .now) = omega arith in
+    simp length-set room
 
 same-length : tie.Need-same-length
 same-length c = search needs

@@ -53,6 +53,9 @@ same-length c = search needs
 abbrev packet-of : tie.After-data-of → List ℕ
 packet-of c = c .before .before .before .before .before .before .before .args .packet .now
 
+abbrev buffer-of : tie.After-data-of → List ℕ
+buffer-of c = c .before .before .before .before .before .before .before .args .buffer .now
+
 abbrev address-of : tie.After-data-of → ℕ
 address-of c = c .before .before .reading .given .0 .1 .0
 
@@ -73,11 +76,10 @@ data-is : (c : tie.After-data-of) → let v = c .before .before .reading .given 
 unfolding dataIn
 data-is c = c .data-of .ensures ∙ ap (λ (x : Reading). dataIn x (packet-of c)) (reading-is c)
 
-again-with : (c : tie.After-data-of) (q : Request) → requestIn (parts-of c) (packet-of c) ≡ q → let d = c .before .before .before .before .before .before .before .args .buffer .now in (formNumber q d ≡ againNumber (packet-of c) d) × (formed q d ≡ formedAgain (packet-of c) d)
+again-with : (c : tie.After-data-of) (q : Request) → requestIn (parts-of c) (packet-of c) ≡ q → (formNumber q (buffer-of c) ≡ againNumber (packet-of c) (buffer-of c)) × (formed q (buffer-of c) ≡ formedAgain (packet-of c) (buffer-of c))
 again-with c q e =
     let w = c .before .before .before .before .before .before in
-    again-formed (packet-of c) (w .before .args .buffer .now) q (λ k. omega (arith, w .shared-slice-known .given k))
-    (reading-is c) e
+    again-formed (packet-of c) (buffer-of c) q (λ k. omega (arith, w .shared-slice-known .given k)) (reading-is c) e
 
 returns-2 : tie.Need-returns-2
 returns-2 c =
@@ -103,7 +105,8 @@ returns-3 c =
     let f = c .before .before in
     let d = f .before .before .before .before in
     let g = again-with d (read (address-of d) (count-of d)) (request-read (packet-of d) _ _ _ _ _ (f .before .before .before .if1 .left) (f .before .before .if2 .taken)) in
-    (f .form-read .ensures .0 ∙ g .0, f .form-read .ensures .1 ∙ g .1)
+    let number : f .form-read .result ≡ formNumber (read (address-of d) (count-of d)) (buffer-of d) = f .form-read .ensures .0 in
+    (number ∙ g .0, f .form-read .ensures .1 ∙ g .1)
 
 cast-form-write-read : tie.Need-cast-form-write-read
 cast-form-write-read c = search needs
