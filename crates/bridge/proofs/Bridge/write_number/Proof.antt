@@ -1,5 +1,5 @@
 -- `Bridge::write_number` meets its contract: at each return the checks passed and the one that fails are those of a law.
-use mathlib.Core.Bool.{cond}
+use mathlib.Core.Bool.{Bool, cond}
 use mathlib.Core.Path.{_≡_, sym, ap, _∙_}
 use Rattle.bridge.specs.Bridge.{goodParameter, writeNumber}
 use Rattle.bridge.proofs.Writes.{writeNumber-none, writeNumber-unknown, writeNumber-busy, writeNumber-length, writeNumber-last}
@@ -54,10 +54,10 @@ last c =
     (c .good-parameter .ensures ∙ ap (goodParameter _) (c .before .byte-at .ensures))
 
 returns-5 : tie.Need-returns-5
-returns-5 c = sym (last (c .before) ∙ simp (c .if5 .taken))
+returns-5 c = sym (last (c .before) ∙ ap (λ (g : Bool). cond g 0 8) (c .if5 .taken))
 
 returns-6 : tie.Need-returns-6
-returns-6 c = sym (last (c .before) ∙ simp (c .if5 .left))
+returns-6 c = sym (last (c .before) ∙ ap (λ (g : Bool). cond g 0 8) (c .if5 .left))
 
 pub write-number-spec : {M : Type 1} → statement M
 write-number-spec =

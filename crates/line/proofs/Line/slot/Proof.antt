@@ -1,5 +1,5 @@
 -- `line::Line::slot` meets its contract: the level is that of the definition, and every probe takes it.
-use mathlib.Core.Path.{ap, _∙_}
+use mathlib.Core.Path.{_≡_, ap, _∙_}
 use mathlib.Core.Bool.{Bool}
 use borrow.Author.Needs.{needs}
 use Rattle.probe.specs.Probe.{took}
@@ -17,7 +17,8 @@ returns : tie.Need-returns
 unfolding slot
 returns c =
     let l = c .before .before .args .self in
-    (c .before .level .ensures, c .taken .ensures ∙ ap (λ (t : Bool). onFitted (took t) l) (c .before .level .ensures))
+    let taken : c .taken .result ≡ onFitted (took (c .before .level .result)) l = c .taken .ensures in
+    (c .before .level .ensures, taken ∙ ap (λ (t : Bool). onFitted (took t) l) (c .before .level .ensures))
 
 pub slot-spec : {M : Type 1} → statement M
 slot-spec = tie.close (tie.spec level-requires taken-requires returns)

@@ -30,19 +30,19 @@ in-condition-requires-4 c κs = search needs
 
 returns : tie.Need-returns
 unfolding obeyed
-returns c = c .in-condition .ensures ∙ sym (ap (λ (x : ℕ). obeyed x (c .before .before .args .self)) (c .before .match .keys1))
+returns c = simp (c .before .match .keys1) (c .in-condition .ensures)
 
 returns-2 : tie.Need-returns-2
 unfolding obeyed
-returns-2 c = c .with-mark .ensures ∙ sym (ap (λ (x : ℕ). obeyed x (c .before .before .args .self)) (c .before .match .keys2))
+returns-2 c = simp (c .before .match .keys2) (c .with-mark .ensures)
 
 returns-3 : tie.Need-returns-3
 unfolding obeyed
-returns-3 c = c .with-mark2 .ensures ∙ sym (ap (λ (x : ℕ). obeyed x (c .before .before .args .self)) (c .before .match .keys3))
+returns-3 c = simp (c .before .match .keys3) (c .with-mark2 .ensures)
 
 returns-4 : tie.Need-returns-4
 unfolding obeyed
-returns-4 c = c .in-condition2 .ensures ∙ sym (ap (λ (x : ℕ). obeyed x (c .before .before .args .self)) (c .before .match .keys4))
+returns-4 c = simp (c .before .match .keys4) (c .in-condition2 .ensures)
 
 returns-5 : tie.Need-returns-5
 unfolding obeyed

@@ -1,5 +1,5 @@
 -- `probe::Probe::sends_searching` meets its contract: by the slot.
-use mathlib.Core.Path.{sym, ap, _∙_}
+use mathlib.Core.Path.{ap}
 use mathlib.Core.Bool.{not}
 use borrow.Author.Needs.{needs}
 use Rattle.probe.specs.Probe.{sendsSearching}
@@ -23,21 +23,15 @@ enum-told-3 c = search needs
 
 returns : tie.Need-returns
 unfolding sendsSearching
-returns c =
-    let a = c .before .before .before .args in
-    c .bit .ensures ∙ sym (ap (sendsSearching (a .self .id) (a .bit)) (c .before .enum-told .given .1))
+returns c = simp (c .before .enum-told .given .1) (c .bit .ensures)
 
 returns-2 : tie.Need-returns-2
 unfolding sendsSearching
-returns-2 c =
-    let a = c .before .before .before .args in
-    ap not (c .bit2 .ensures) ∙ sym (ap (sendsSearching (a .self .id) (a .bit)) (c .before .enum-told2 .given .1))
+returns-2 c = simp (c .before .enum-told2 .given .1) (ap not (c .bit2 .ensures))
 
 returns-3 : tie.Need-returns-3
 unfolding sendsSearching
-returns-3 c =
-    let a = c .before .before .args in
-    sym (ap (sendsSearching (a .self .id) (a .bit)) (c .enum-told3 .given .1))
+returns-3 c = simp (c .enum-told3 .given .1)
 
 pub sends-searching-spec : {M : Type 1} → statement M
 sends-searching-spec =
