@@ -8,15 +8,7 @@ use crate::REFUSED_UNKNOWN;
 use line::DONE;
 ghost use mathlib.Core.Path.{_≡_};
 ghost use mathlib.Core.Bool.{cond, true, false};
-ghost use lib.ListN.{getD};
 ghost use Rattle.bridge.specs.Bridge.{busy as busyOf, bytesOf, takenWhileBusy, goodParameter, writeNumber};
-
-// The byte at a place of a write, 0 behind its end.
-pub(crate) fn byte_at(bytes: &[u8], i: usize) -> u8
-    ensures { λ r. ⌜ r ≡ getD (now (bytes .entry)) i 0 ⌝ }
-{
-    if i < bytes.len() { bytes[i] } else { 0 }
-}
 
 // How many bytes the command has in all; 0 for a code that is unknown.
 fn bytes_of(code: u8) -> usize
@@ -120,7 +112,7 @@ impl Bridge {
         if bytes.len() != wanted {
             return REFUSED_LENGTH;
         }
-        if good_parameter(code, byte_at(bytes, 1)) {
+        if good_parameter(code, bytes::at(bytes, 1)) {
             DONE
         } else {
             REFUSED_PARAMETER

@@ -113,7 +113,7 @@ impl Bridge {
     {
         let number = self.write_number(bytes);
         if number == DONE {
-            let bridge = self.obeyed(checks::byte_at(bytes, 0), checks::byte_at(bytes, 1));
+            let bridge = self.obeyed(bytes::at(bytes, 0), bytes::at(bytes, 1));
             return Answer { number, bridge };
         }
         Answer {

@@ -10,11 +10,11 @@ use Rattle.bridge.proofs.Bridge.write.Tie as tie
 write-number-requires : tie.Need-write-number-requires
 write-number-requires c κs = search needs
 
-byte-at-requires : tie.Need-byte-at-requires
-byte-at-requires c κs = search needs
+at-requires : tie.Need-at-requires
+at-requires c κs = search needs
 
-byte-at-requires-2 : tie.Need-byte-at-requires-2
-byte-at-requires-2 c κs = search needs
+at-requires-2 : tie.Need-at-requires-2
+at-requires-2 c κs = search needs
 
 obeyed-requires : tie.Need-obeyed-requires
 obeyed-requires c κs = search needs
@@ -24,7 +24,7 @@ returns c =
     let n = c .before .before .before in (
       n .before .write-number .ensures,
       c .obeyed .ensures
-          ∙ ap₂ (λ (k x : ℕ). obeyed k x (n .before .before .before .args .self)) (c .before .before .byte-at .ensures) (c .before .byte-at2 .ensures)
+          ∙ ap₂ (λ (k x : ℕ). obeyed k x (n .before .before .before .args .self)) (c .before .before .at .ensures) (c .before .at2 .ensures)
           ∙ sym (afterWrite-done _ _ (sym (n .before .write-number .ensures) ∙ n .if1 .taken)),
     )
 
@@ -39,8 +39,8 @@ write-spec =
     tie.close
     (tie.spec
     write-number-requires
-    byte-at-requires
-    byte-at-requires-2
+    at-requires
+    at-requires-2
     obeyed-requires
     returns
     returns-2)

@@ -36,8 +36,8 @@ returns-4 c =
     (writeNumber-length _ _ (k .before .before .before .if1 .left) (k .before .bytes-of .ensures) (k .if2 .left)
     (c .before .before .held-up .ensures) (c .before .if3 .left) (c .if4 .taken))
 
-byte-at-requires : tie.Need-byte-at-requires
-byte-at-requires c κs = search needs
+at-requires : tie.Need-at-requires
+at-requires c κs = search needs
 
 good-parameter-requires : tie.Need-good-parameter-requires
 good-parameter-requires c κs = search needs
@@ -51,7 +51,7 @@ last c =
     let k = w .before .before .before in
     writeNumber-last _ _ (k .before .before .before .if1 .left) (k .before .bytes-of .ensures) (k .if2 .left)
     (w .before .before .held-up .ensures) (w .before .if3 .left) (w .if4 .left)
-    (c .good-parameter .ensures ∙ ap (goodParameter _) (c .before .byte-at .ensures))
+    (c .good-parameter .ensures ∙ ap (goodParameter _) (c .before .at .ensures))
 
 returns-5 : tie.Need-returns-5
 returns-5 c = sym (last (c .before) ∙ ap (λ (g : Bool). cond g 0 8) (c .if5 .taken))
@@ -70,7 +70,7 @@ write-number-spec =
     held-up-requires
     returns-3
     returns-4
-    byte-at-requires
+    at-requires
     good-parameter-requires
     returns-5
     returns-6)
