@@ -127,13 +127,14 @@ static void reset(void)
     }
 }
 
-static uint8_t crc8(const uint8_t *bytes, int length)
+/* The taps are 8Ch for the CRC-8 and A001h for the CRC-16. */
+static unsigned crc(unsigned taps, const uint8_t *bytes, int length)
 {
-    uint8_t r = 0;
+    unsigned r = 0;
     for (int i = 0; i < length; i++)
         for (int k = 0; k < 8; k++) {
-            int odd = (r ^ bytes[i] >> k) & 1;
-            r = (uint8_t)(r >> 1 ^ (odd ? 0x8C : 0));
+            int odd = (int)(r ^ bytes[i] >> k) & 1;
+            r = r >> 1 ^ (odd ? taps : 0);
         }
     return r;
 }
@@ -141,7 +142,7 @@ static uint8_t crc8(const uint8_t *bytes, int length)
 static void fit(unsigned serial)
 {
     uint8_t bytes[7] = {0x19, (uint8_t)serial};
-    probes[fitted].id = 0x19 | (uint64_t)serial << 8 | (uint64_t)crc8(bytes, 7) << 56;
+    probes[fitted].id = 0x19 | (uint64_t)serial << 8 | (uint64_t)crc(0x8C, bytes, 7) << 56;
     probes[fitted].condition = DEAF;
     fitted++;
 }
@@ -197,7 +198,10 @@ static void search(uint8_t *list)
     } while (conflict >= 0 && count < 64);
 }
 
-/* For each letter of the input 2,000 rounds of that work, 20 full searches for f; then the status and the read-data byte. */
+/*
+ * For each letter of the input 2,000 rounds of that work, 20 full searches for f; then the status and the read-data byte, and for f
+ * before them the CRC-16 of the list.
+ */
 int main(void)
 {
     static uint8_t list[512];
@@ -210,6 +214,8 @@ int main(void)
             else
                 work(kind);
         }
+        if (kind == 'f')
+            printf("%04x ", crc(0xA001, list, 512));
         printf("%02x %02x\n", status, readout);
     }
     return 0;

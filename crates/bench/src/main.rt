@@ -7,7 +7,7 @@ use libc::STDOUT_FILENO;
 fn main() {
     let mut script = [0u8; 4097];
     let n = io::read_full(STDIN_FILENO, &mut script);
-    let mut out = [0u8; 180136];
+    let mut out = [0u8; transcript::MOST];
     let len = transcript::transcript(&script[..n], &mut out);
     io::write_all(STDOUT_FILENO, &out[..len]);
 }

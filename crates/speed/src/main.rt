@@ -6,7 +6,7 @@
 //   p   1-Wire Reset, Read ROM and eight bytes written: every probe sends in every slot
 //   m   1-Wire Reset, Search ROM and eight bytes read
 //   f   a full search
-// After each work it prints the status and the read-data byte.
+// After each work it prints the status and the read-data byte, and for f before them the CRC-16 of the list.
 use bridge::Bridge;
 
 // The ID of family 19h with this serial number.
@@ -48,48 +48,56 @@ fn bytes_after(bridge: Bridge) -> Bridge {
     b
 }
 
-fn reads_after(bridge: Bridge) -> Bridge {
+// One command so many times.
+fn repeated(bridge: Bridge, times: u8, bytes: &[u8]) -> Bridge {
     let mut b = bridge;
     let mut i: u8 = 0;
-    while i < 8 {
-        b = command(b, &[0x96]);
+    while i < times {
+        b = command(b, bytes);
         i += 1;
     }
     b
-}
-
-fn triplets_after(bridge: Bridge) -> Bridge {
-    let mut b = bridge;
-    let mut i: u8 = 0;
-    while i < 64 {
-        b = command(b, &[0x78, 0]);
-        i += 1;
-    }
-    b
-}
-
-fn searched(bridge: Bridge) -> Bridge {
-    let mut list = [0u8; 512];
-    search::search(bridge, 65535, &mut list).bridge
 }
 
 fn round(bridge: Bridge, work: u8) -> Bridge {
-    if work == b'f' {
-        return searched(bridge);
-    }
     let reset = command(bridge, &[0xB4]);
     match work {
         b'w' => bytes_after(command(reset, &[0xA5, 0xF0])),
-        b'r' => reads_after(command(reset, &[0xA5, 0x33])),
-        b's' => triplets_after(command(reset, &[0xA5, 0xF0])),
+        b'r' => repeated(command(reset, &[0xA5, 0x33]), 8, &[0x96]),
+        b's' => repeated(command(reset, &[0xA5, 0xF0]), 64, &[0x78, 0]),
         b'p' => bytes_after(command(reset, &[0xA5, 0x33])),
-        b'm' => reads_after(command(reset, &[0xA5, 0xF0])),
+        b'm' => repeated(command(reset, &[0xA5, 0xF0]), 8, &[0x96]),
         _ => reset,
     }
 }
 
+fn searched(bridge: Bridge, list: &mut [u8; 512]) -> Bridge {
+    search::search(bridge, 65535, list).bridge
+}
+
+fn listed(list: &[u8; 512]) {
+    io::print_hex(1, checksum::crc16(list) as u64, 4);
+    io::write_all(1, b" ");
+}
+
+// Full searches; the checksum of the last list is printed.
+fn searches(before: Bridge) -> Bridge {
+    let mut list = [0u8; 512];
+    let mut left: u32 = 20;
+    let mut bridge = before;
+    while 0 < left {
+        bridge = searched(bridge, &mut list);
+        left -= 1;
+    }
+    listed(&list);
+    bridge
+}
+
 fn rounds(before: Bridge, work: u8) -> Bridge {
-    let mut left: u32 = if work == b'f' { 20 } else { 2000 };
+    if work == b'f' {
+        return searches(before);
+    }
+    let mut left: u32 = 2000;
     let mut bridge = before;
     while 0 < left {
         bridge = round(bridge, work);

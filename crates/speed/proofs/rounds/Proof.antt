@@ -10,6 +10,12 @@ Inv-loop work left₀ bridge₀ left bridge = 0 ≤ left
 abbrev μ-loop : tie.MeasureT-loop
 μ-loop work left₀ bridge₀ left bridge = left
 
+searches-requires : tie.Need-searches-requires Inv-loop μ-loop
+searches-requires c κs = search needs
+
+returns : tie.Need-returns Inv-loop μ-loop
+returns c = search needs
+
 loop-holds : tie.Need-loop-holds Inv-loop μ-loop
 loop-holds c = search needs
 
@@ -25,10 +31,20 @@ loop-less c = search needs
 loop-again : tie.Need-loop-again Inv-loop μ-loop
 loop-again c = search needs
 
-returns : tie.Need-returns Inv-loop μ-loop
-returns c = search needs
+returns-2 : tie.Need-returns-2 Inv-loop μ-loop
+returns-2 c = search needs
 
 pub rounds-spec : {M : Type 1} → statement M
 rounds-spec =
     tie.close
-    (tie.spec Inv-loop μ-loop loop-holds round-requires sub-left loop-less loop-again returns)
+    (tie.spec
+    Inv-loop
+    μ-loop
+    searches-requires
+    returns
+    loop-holds
+    round-requires
+    sub-left
+    loop-less
+    loop-again
+    returns-2)

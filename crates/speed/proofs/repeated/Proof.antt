@@ -1,20 +1,17 @@
--- `speed::reads_after` is safe and ends: its turns are counted.
+-- `speed::repeated` is safe and ends: its turns are counted.
 use borrow.Author.Needs.{needs}
 use Prim.Native.Nat.{_≤_, _-_}
-use Rattle.speed.proofs.reads_after.Statement.{statement}
-use Rattle.speed.proofs.reads_after.Tie as tie
+use Rattle.speed.proofs.repeated.Statement.{statement}
+use Rattle.speed.proofs.repeated.Tie as tie
 
 abbrev Inv-loop : tie.InvT-loop
-Inv-loop b₀ i₀ bytes b i = i ≤ 8
+Inv-loop times bytes b₀ i₀ b i = i ≤ times
 
 abbrev μ-loop : tie.MeasureT-loop
-μ-loop b₀ i₀ bytes b i = 8 - i
+μ-loop times bytes b₀ i₀ b i = times - i
 
 loop-holds : tie.Need-loop-holds Inv-loop μ-loop
 loop-holds c = search needs
-
-slice-aggregate-command : tie.Need-slice-aggregate-command Inv-loop μ-loop
-slice-aggregate-command c = search needs
 
 command-requires : tie.Need-command-requires Inv-loop μ-loop
 command-requires c κs = search needs
@@ -31,14 +28,13 @@ loop-again c = search needs
 returns : tie.Need-returns Inv-loop μ-loop
 returns c = search needs
 
-pub reads-after-spec : {M : Type 1} → statement M
-reads-after-spec =
+pub repeated-spec : {M : Type 1} → statement M
+repeated-spec =
     tie.close
     (tie.spec
     Inv-loop
     μ-loop
     loop-holds
-    slice-aggregate-command
     command-requires
     add-i
     loop-less
