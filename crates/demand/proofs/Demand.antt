@@ -25,22 +25,23 @@ use Rattle.bridge.specs.Bridge.{command, afterFitting}
 use Rattle.bridge.specs.Reached.{Bytes, Reached}
 use Rattle.bridge.specs.Reached.Reached.{fit}
 use Rattle.search.specs.declared.Answer.the-variants.{Listed, Refused}
-use Rattle.search.specs.Search.{search, searchNumber, answerOf, answerNumber, valuesOf, bytesFrom, listOf, bufferOf}
+use Rattle.pass.specs.Passes.{search}
+use Rattle.search.specs.Search.{searchNumber, answerOf, answerNumber, valuesOf, bytesFrom, listOf, bufferOf}
 use Rattle.enumeration.specs.Order.{Among, Narrow, InOrder}
 use Rattle.enumeration.proofs.Tree.{begins, sorted}
 use Rattle.enumeration.proofs.Order.{in-order-unique, in-order-more}
 use Rattle.enumeration.proofs.Leaves.{sorted-in-order, begins-whole}
-use Rattle.search.proofs.Words.{Rest, lineOf, gathered, markedSelected, standing, Facts}
-use Rattle.search.proofs.Words.Rest.{free}
+use Rattle.searching.proofs.Words.{Rest, lineOf, gathered, markedSelected, standing, Facts}
+use Rattle.searching.proofs.Words.Rest.{free}
 use Rattle.demand.specs.Sound.{Sound}
 use Rattle.demand.specs.Demand.{idsAt, afterResume, Resumed, Demand}
-use Rattle.search.proofs.Wire.{fitted-lineOf, id-standing}
-use Rattle.search.proofs.Holds.{obeyed-id, holds-command}
-use Rattle.search.proofs.Pass.{commanded-line}
+use Rattle.searching.proofs.Wire.{fitted-lineOf, id-standing}
+use Rattle.searching.proofs.Holds.{obeyed-id, holds-command}
+use Rattle.searching.proofs.Pass.{commanded-line}
 use Rattle.demand.proofs.Reached.{Kept, holds-ids, holds-length, holds-fit, new-id, reached-kept, reached-sound, reached-search}
 use Rattle.search.proofs.Bytes.{length-listOf}
 use Rattle.search.proofs.Call.{Answered, number-short, number-roomy, done}
-use Rattle.search.proofs.Facts.{search-facts, search-capped}
+use Rattle.searching.proofs.Facts.{search-facts, search-capped}
 
 -- ---- lists
 

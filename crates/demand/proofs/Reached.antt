@@ -25,16 +25,17 @@ use Rattle.bridge.specs.Bridge.{powerOn, afterFitting, command}
 use Rattle.bridge.proofs.Reach.{reached-command}
 use Rattle.bridge.specs.Reached.{Bytes, Reached}
 use Rattle.bridge.specs.Reached.Reached.{on, write, wait, fit}
-use Rattle.search.specs.declared.passes.Conflict.{Conflict}
-use Rattle.search.specs.declared.passes.Conflict.the-variants.{Nowhere, At}
-use Rattle.search.specs.declared.passes.Walk.{Walk}
-use Rattle.search.specs.Search.{direction, tripletByte, tookTriplet, tripled, walked, passed, Result, absent, broken, continued, searched, search}
+use Rattle.pass.specs.declared.Conflict.{Conflict}
+use Rattle.pass.specs.declared.Conflict.the-variants.{Nowhere, At}
+use Rattle.pass.specs.declared.Walk.{Walk}
+use Rattle.pass.specs.Pass.{direction, tripletByte, tookTriplet, tripled, walked, passed}
+use Rattle.pass.specs.Passes.{Result, absent, broken, continued, searched, search}
 use Rattle.enumeration.specs.Order.{Among, Distinct, Narrow}
-use Rattle.search.proofs.Words.{Rest, lineOf, Holds}
-use Rattle.search.proofs.Words.Rest.{free}
-use Rattle.search.proofs.Holds.{holds-time, write-line}
+use Rattle.searching.proofs.Words.{Rest, lineOf, Holds}
+use Rattle.searching.proofs.Words.Rest.{free}
+use Rattle.searching.proofs.Holds.{holds-time, write-line}
 use Rattle.demand.specs.Sound.{Sound}
-use Rattle.search.proofs.Wire.{line-path, idsOf-lineOf}
+use Rattle.searching.proofs.Wire.{line-path, idsOf-lineOf}
 
 pub record Kept (l : Line) : Type 0 where
   pub ids : List ℕ

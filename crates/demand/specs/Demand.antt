@@ -19,7 +19,8 @@ use Rattle.bridge.specs.declared.Bridge.{Bridge}
 use Rattle.bridge.specs.Bridge.{command, afterFitting}
 use Rattle.bridge.specs.Reached.{Bytes, Reached}
 use Rattle.search.specs.declared.Answer.the-variants.{Listed}
-use Rattle.search.specs.Search.{search, searchNumber, answerOf, answerNumber, valuesOf, listOf, bufferOf, bridgeOf}
+use Rattle.pass.specs.Passes.{search}
+use Rattle.search.specs.Search.{searchNumber, answerOf, answerNumber, valuesOf, listOf, bufferOf, bridgeOf}
 use Rattle.enumeration.specs.Order.{Among, InOrder}
 
 abbrev pub idsAt : Bridge → List ℕ

@@ -12,7 +12,8 @@ use lib.ListN.{length, drop}
 use Rattle.bridge.specs.declared.Bridge.{Bridge}
 use Rattle.search.specs.declared.Answer.{Answer}
 use Rattle.search.specs.declared.Answer.the-variants.{Listed, Refused}
-use Rattle.search.specs.Search.{search, searchNumber, answerOf, bufferOf, bridgeOf, listOf}
+use Rattle.pass.specs.Passes.{search}
+use Rattle.search.specs.Search.{searchNumber, answerOf, bufferOf, bridgeOf, listOf}
 
 module _ (n : ℕ) (d : List ℕ) (b : Bridge) where
   -- what answer, state and buffer are by the number

@@ -1,11 +1,4 @@
-pub mod Words
-pub mod Wire
 pub mod Bytes
-pub mod Walked
-pub mod Holds
-pub mod Pass
 pub mod Onward
-pub mod Outcomes
-pub mod Facts
 pub mod Call
 pub mod Unique

@@ -1,12 +1,11 @@
--- One pass of a search, and what it adds to the IDs that are found already. The definition puts an ID before what the passes after it come
--- to; a search that goes on puts it behind what it has.
---   searched-absent, searched-broken, searched-next    one pass: no presence, levels 1,1, or an ID and what comes after it
+-- What a pass adds to the IDs that are found already. The definition puts an ID before what the passes after it come to; a search that goes
+-- on puts it behind what it has.
 --   onward p r       the result r of the passes to come, behind the IDs p
 --   onward-none      no ID is found yet
---   stands           what is handed back stands for the whole
 --   onward-f         one pass more, by how it ends: absent, broken, last, more; onward-over, no pass is left
-use mathlib.Core.Path.{_≡_, sym, ap, ap₂, _∙_}
-use mathlib.Core.Bool.{Bool, true, false, cond}
+--   stands           what is handed back stands for the whole
+use mathlib.Core.Path.{_≡_, sym, ap, _∙_}
+use mathlib.Core.Bool.{Bool, true, false}
 use mathlib.Core.List.{List, [], _∷_, _++_, append-nil}
 use Prim.Native.Nat.{ℕ, suc, _+_, _-_, _<_, _≤_}
 use native.Mathlib.Nat.{zero-add}
@@ -15,41 +14,14 @@ use lib.ListN.{length, length-append}
 use lib.Seq.{append-snoc}
 use Rattle.bridge.specs.declared.Bridge.{Bridge}
 use Rattle.bridge.specs.Bridge.{command}
-use Rattle.search.specs.declared.passes.Conflict.{Conflict}
-use Rattle.search.specs.declared.passes.Conflict.the-variants.{Nowhere, At}
-use Rattle.search.specs.declared.passes.Walk.{Walk}
+use Rattle.pass.specs.declared.Conflict.{Conflict}
+use Rattle.pass.specs.declared.Conflict.the-variants.{Nowhere, At}
+use Rattle.pass.specs.declared.Walk.{Walk}
+use Rattle.pass.specs.Pass.{passed}
+use Rattle.pass.specs.Passes.{Result, before, continued, searched}
+use Rattle.searching.proofs.Next.{next, searched-absent, searched-broken, searched-next}
 use Rattle.search.specs.declared.passes.Found.{Found}
 use Rattle.search.specs.Found.{resultOf}
-use Rattle.search.specs.Search.{passed, Result, absent, broken, before, continued, searched}
-
--- ---- one pass
-
--- the pass that `searched` takes next
-abbrev pub next : ℕ → Conflict → Bridge → Walk
-next i c b = passed i c (command (0xB4 ∷ []) b)
-
--- what a pass comes to, by presence and levels
-abbrev met : (ppd silent : Bool) (m i : ℕ) → Conflict → Bridge → Result
-met ppd silent m i c b =
-    cond ppd
-    (cond silent (broken (next i c b .bridge))
-    (continued (next i c b .conflict) (next i c b) (searched m (next i c b .id) (next i c b .conflict) (next i c b .bridge))))
-    (absent (command (0xB4 ∷ []) b))
-
-module _ (m i : ℕ) (c : Conflict) (b : Bridge) where
-  pub searched-absent : command (0xB4 ∷ []) b .ppd ≡ false → searched (suc m) i c b ≡ absent (command (0xB4 ∷ []) b)
-  unfolding searched
-  searched-absent p = ap (λ (x : Bool). met x (next i c b .silent) m i c b) p
-
-  pub searched-broken : command (0xB4 ∷ []) b .ppd ≡ true → next i c b .silent ≡ true → searched (suc m) i c b ≡ broken (next i c b .bridge)
-  unfolding searched
-  searched-broken p s = ap₂ (λ (x y : Bool). met x y m i c b) p s
-
-  pub searched-next : (q : Conflict) → command (0xB4 ∷ []) b .ppd ≡ true → next i c b .silent ≡ false → next i c b .conflict ≡ q → searched (suc m) i c b ≡ continued q (next i c b) (searched m (next i c b .id) q (next i c b .bridge))
-  unfolding searched
-  searched-next q p s e =
-      ap₂ (λ (x y : Bool). met x y m i c b) p s
-      ∙ ap (λ (v : Conflict). continued v (next i c b) (searched m (next i c b .id) v (next i c b .bridge))) e
 
 -- ---- behind what is found
 

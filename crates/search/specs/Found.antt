@@ -7,7 +7,7 @@ use mathlib.Core.List.{List}
 use lib.ListN.{take}
 use Rattle.bridge.specs.declared.Bridge.{Bridge}
 use Rattle.search.specs.declared.passes.Found.{Found}
-use Rattle.search.specs.Search.{Result}
+use Rattle.pass.specs.Passes.{Result}
 
 abbrev pub found : Bool → Bool → List ℕ → ℕ → ℕ → Bridge → Found
 found c s l n m b = record { ids = l; count = n; passes = m; complete = c; silent = s; bridge = b }

@@ -31,13 +31,9 @@ pub(crate) fn of_64() -> Bridge {
 
 // ---- what was before
 
-fn command(bridge: Bridge, bytes: &[u8]) -> Bridge {
-    bridge.write(bytes).bridge.wait()
-}
-
 fn rom(bridge: Bridge, code: u8) -> Bridge {
     let bytes = [Bridge::WRITE_BYTE, code];
-    command(command(bridge, b"\xB4"), &bytes)
+    pass::command(pass::command(bridge, b"\xB4"), &bytes)
 }
 
 pub(crate) fn with_pending(bridge: Bridge) -> Bridge {
@@ -53,11 +49,11 @@ pub(crate) fn resumed(bridge: Bridge) -> Bridge {
 }
 
 pub(crate) fn configured(bridge: Bridge) -> Bridge {
-    command(command(bridge, b"\x96"), b"\xD2\xE1")
+    pass::command(pass::command(bridge, b"\x96"), b"\xD2\xE1")
 }
 
 fn triplet(bridge: Bridge) -> Bridge {
-    command(bridge, b"\x78\x80")
+    pass::command(bridge, b"\x78\x80")
 }
 
 // Ten triplets of a pass that takes 1 where it can.

@@ -32,17 +32,11 @@ fn with_64() -> Bridge {
     bridge
 }
 
-fn command(bridge: Bridge, bytes: &[u8]) -> Bridge {
-    let answer = bridge.write(bytes);
-    let written = answer.bridge;
-    written.wait()
-}
-
 fn bytes_after(bridge: Bridge) -> Bridge {
     let mut b = bridge;
     let mut i: u8 = 0;
     while i < 8 {
-        b = command(b, &[0xA5, i]);
+        b = pass::command(b, &[0xA5, i]);
         i += 1;
     }
     b
@@ -53,20 +47,20 @@ fn repeated(bridge: Bridge, times: u8, bytes: &[u8]) -> Bridge {
     let mut b = bridge;
     let mut i: u8 = 0;
     while i < times {
-        b = command(b, bytes);
+        b = pass::command(b, bytes);
         i += 1;
     }
     b
 }
 
 fn round(bridge: Bridge, work: u8) -> Bridge {
-    let reset = command(bridge, &[0xB4]);
+    let reset = pass::command(bridge, &[0xB4]);
     match work {
-        b'w' => bytes_after(command(reset, &[0xA5, 0xF0])),
-        b'r' => repeated(command(reset, &[0xA5, 0x33]), 8, &[0x96]),
-        b's' => repeated(command(reset, &[0xA5, 0xF0]), 64, &[0x78, 0]),
-        b'p' => bytes_after(command(reset, &[0xA5, 0x33])),
-        b'm' => repeated(command(reset, &[0xA5, 0xF0]), 8, &[0x96]),
+        b'w' => bytes_after(pass::command(reset, &[0xA5, 0xF0])),
+        b'r' => repeated(pass::command(reset, &[0xA5, 0x33]), 8, &[0x96]),
+        b's' => repeated(pass::command(reset, &[0xA5, 0xF0]), 64, &[0x78, 0]),
+        b'p' => bytes_after(pass::command(reset, &[0xA5, 0x33])),
+        b'm' => repeated(pass::command(reset, &[0xA5, 0xF0]), 8, &[0x96]),
         _ => reset,
     }
 }

@@ -7,10 +7,11 @@ use native.Mathlib.Omega.{arith}
 use lib.ListN.{length, take, drop, length-map}
 use lib.Seq.{length-take-le}
 use Rattle.search.specs.declared.Answer.the-variants.{Listed}
-use Rattle.search.specs.Search.{search as searchOf, Result, listOf}
+use Rattle.pass.specs.Passes.{search as searchOf, Result}
+use Rattle.search.specs.Search.{listOf}
 use Rattle.search.specs.Found.{resultOf}
 use Rattle.search.proofs.Bytes.{length-firsts}
-use Rattle.search.proofs.Facts.{search-capped}
+use Rattle.searching.proofs.Facts.{search-capped}
 use Rattle.search.proofs.Call.{short, silent, done}
 use borrow.Author.Needs.{needs}
 use Rattle.search.proofs.search.Statement.{statement}

@@ -5,8 +5,8 @@ use Prim.Native.Nat.{ℕ, zero, suc}
 use native.Mathlib.Omega.{arith}
 use Rattle.bridge.specs.declared.Bridge.{Bridge}
 use Rattle.bridge.specs.Bridge.{command}
-use Rattle.search.specs.declared.passes.Conflict.the-variants.{Nowhere}
-use Rattle.search.specs.Search.{search as searchOf, searched, exhausted}
+use Rattle.pass.specs.declared.Conflict.the-variants.{Nowhere}
+use Rattle.pass.specs.Passes.{search as searchOf, searched, exhausted}
 use Rattle.search.specs.Found.{resultOf}
 use Rattle.search.proofs.Onward.{stands}
 use borrow.Author.Needs.{needs}

@@ -7,8 +7,8 @@ use mathlib.Core.List.{[], _∷_, _++_}
 use lib.ListN.{length, take, set, length-set}
 use lib.Seq.{length-take-le, take-suc-set}
 use borrow.Author.Tests.{not-true, not-false}
-use Rattle.search.specs.declared.passes.Conflict.the-variants.{Nowhere}
-use Rattle.search.specs.Search.{searched}
+use Rattle.pass.specs.declared.Conflict.the-variants.{Nowhere}
+use Rattle.pass.specs.Passes.{searched}
 use Rattle.search.proofs.Onward.{stands, onward, onward-none, onward-over, onward-absent, onward-broken, onward-last, onward-more}
 use borrow.Author.Needs.{needs}
 use Rattle.search.proofs.passes.passes.Statement.{statement}

@@ -21,14 +21,14 @@ use Rattle.bridge.specs.declared.Bridge.{Bridge}
 use Rattle.bridge.specs.declared.Pending.the-variants.{Nothing, Triplet}
 use Rattle.bridge.proofs.Effects.{command-reset, command-write, command-triplet}
 use Rattle.bridge.specs.Bridge.{isPending, busy, pended, chosen, finishedReset, finishedWrite, finishedTriplet, command}
-use Rattle.search.specs.declared.passes.Conflict.{Conflict}
-use Rattle.search.specs.declared.passes.Conflict.the-variants.{Nowhere, At}
-use Rattle.search.specs.declared.passes.Walk.{Walk}
-use Rattle.search.specs.Search.{direction, noted, tripletByte, tookTriplet, tripled, walked, passed}
+use Rattle.pass.specs.declared.Conflict.{Conflict}
+use Rattle.pass.specs.declared.Conflict.the-variants.{Nowhere, At}
+use Rattle.pass.specs.declared.Walk.{Walk}
+use Rattle.pass.specs.Pass.{direction, noted, tripletByte, tookTriplet, tripled, walked, passed}
 use Rattle.enumeration.proofs.Tree.{has, child, taken, noted as notedAt, ending, deeper, last}
 use Rattle.enumeration.proofs.Bits.{child-lt, has-split}
-use Rattle.search.proofs.Words.{Rest, lineOf, stand, standing, gathered, onto, Under, Idle}
-use Rattle.search.proofs.Wire.{first-slot, second-slot, third-slot, first-level, second-level, resetAll-lineOf, slots-reset, obeyed-search, ids-standing}
+use Rattle.searching.proofs.Words.{Rest, lineOf, stand, standing, gathered, onto, Under, Idle}
+use Rattle.searching.proofs.Wire.{first-slot, second-slot, third-slot, first-level, second-level, resetAll-lineOf, slots-reset, obeyed-search, ids-standing}
 
 -- ---- a triplet on the bridge
 

@@ -1,6 +1,6 @@
--- `passes::triplet_byte` meets its contract: the direction is bit 7.
-use Rattle.search.proofs.passes.triplet_byte.Statement.{statement}
-use Rattle.search.proofs.passes.triplet_byte.Tie as tie
+-- `triplet_byte` meets its contract: the direction is bit 7.
+use Rattle.pass.proofs.triplet_byte.Statement.{statement}
+use Rattle.pass.proofs.triplet_byte.Tie as tie
 
 returns : tie.Need-returns
 returns c = simp (c .if1 .taken)

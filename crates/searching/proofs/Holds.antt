@@ -19,8 +19,8 @@ use Rattle.bridge.specs.declared.Pending.{Pending}
 use Rattle.bridge.specs.declared.Pending.the-variants.{Nothing, Reset, SingleBit, WriteByte, ReadByte, Triplet}
 use Rattle.bridge.specs.declared.Bridge.{Bridge}
 use Rattle.bridge.specs.Bridge.{obeyed as obeyedBy, writeNumber, afterWrite, finishedOf, finishedReset, finishedBit, finishedWrite, finishedRead, finishedTriplet, afterTime, command}
-use Rattle.search.proofs.Words.{Rest, Holds}
-use Rattle.search.proofs.Wire.{onFitted-lineOf}
+use Rattle.searching.proofs.Words.{Rest, Holds}
+use Rattle.searching.proofs.Wire.{onFitted-lineOf}
 
 -- ---- a probe keeps its ID
 

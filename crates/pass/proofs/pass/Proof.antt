@@ -1,10 +1,10 @@
--- `passes::pass` meets its contract: Search ROM is written, and the triplets follow.
+-- `pass` meets its contract: Search ROM is written, and the triplets follow.
 use mathlib.Core.Path.{ap, _∙_}
 use Rattle.bridge.specs.declared.Bridge.{Bridge}
-use Rattle.search.specs.Search.{begun, walked, passed}
+use Rattle.pass.specs.Pass.{begun, walked, passed}
 use borrow.Author.Needs.{needs}
-use Rattle.search.proofs.passes.pass.Statement.{statement}
-use Rattle.search.proofs.passes.pass.Tie as tie
+use Rattle.pass.proofs.pass.Statement.{statement}
+use Rattle.pass.proofs.pass.Tie as tie
 
 slice-aggregate-command : tie.Need-slice-aggregate-command
 slice-aggregate-command c = search needs

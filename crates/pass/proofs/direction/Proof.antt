@@ -1,10 +1,10 @@
--- `passes::direction` meets its contract: by where the last conflict was, and on which side of it bit k lies.
+-- `direction` meets its contract: by where the last conflict was, and on which side of it bit k lies.
 use native.Mathlib.Omega.{arith}
 use borrow.Author.Tests.{lt-ltb, le-ltb}
-use Rattle.search.specs.Search.{direction}
+use Rattle.pass.specs.Pass.{direction}
 use borrow.Author.Needs.{needs}
-use Rattle.search.proofs.passes.direction.Statement.{statement}
-use Rattle.search.proofs.passes.direction.Tie as tie
+use Rattle.pass.proofs.direction.Statement.{statement}
+use Rattle.pass.proofs.direction.Tie as tie
 
 enum-told : tie.Need-enum-told
 enum-told c = search needs

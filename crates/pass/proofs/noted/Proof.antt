@@ -1,7 +1,7 @@
--- `passes::noted` meets its contract: the tests are those of the definition, in its order.
-use Rattle.search.specs.Search.{noted}
-use Rattle.search.proofs.passes.noted.Statement.{statement}
-use Rattle.search.proofs.passes.noted.Tie as tie
+-- `noted` meets its contract: the tests are those of the definition, in its order.
+use Rattle.pass.specs.Pass.{noted}
+use Rattle.pass.proofs.noted.Statement.{statement}
+use Rattle.pass.proofs.noted.Tie as tie
 
 returns : tie.Need-returns
 unfolding noted

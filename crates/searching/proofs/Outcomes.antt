@@ -16,16 +16,17 @@ use Rattle.line.specs.declared.Line.{Line}
 use Rattle.line.specs.Line.{idOf}
 use Rattle.bridge.specs.declared.Bridge.{Bridge}
 use Rattle.bridge.specs.Bridge.{command}
-use Rattle.search.specs.declared.passes.Conflict.{Conflict}
-use Rattle.search.specs.declared.passes.Conflict.the-variants.{Nowhere, At}
-use Rattle.search.specs.declared.passes.Walk.{Walk}
-use Rattle.search.specs.Search.{direction, Result, lastOne, before, continued, searched}
+use Rattle.pass.specs.declared.Conflict.{Conflict}
+use Rattle.pass.specs.declared.Conflict.the-variants.{Nowhere, At}
+use Rattle.pass.specs.declared.Walk.{Walk}
+use Rattle.pass.specs.Pass.{direction}
+use Rattle.pass.specs.Passes.{Result, lastOne, before, continued, searched}
 use Rattle.enumeration.proofs.Tree.{has, ending, last, after, Sequences}
 use Rattle.enumeration.proofs.Tree.Sequences.{ends, goes}
-use Rattle.search.proofs.Words.{Rest, lineOf, standing, onto, Under, Idle, Outcome}
-use Rattle.search.proofs.Wire.{count-lineOf}
-use Rattle.search.proofs.Onward.{next, searched-next}
-use Rattle.search.proofs.Pass.{reset-ppd, passed-on, under-idle}
+use Rattle.searching.proofs.Words.{Rest, lineOf, standing, onto, Under, Idle, Outcome}
+use Rattle.searching.proofs.Wire.{count-lineOf}
+use Rattle.searching.proofs.Next.{next, searched-next}
+use Rattle.searching.proofs.Pass.{reset-ppd, passed-on, under-idle}
 
 -- ---- one pass of the search
 

@@ -28,10 +28,10 @@ use Rattle.line.specs.Line.{idOf}
 use Rattle.bridge.specs.declared.Bridge.{Bridge}
 use Rattle.bridge.specs.declared.Pending.the-variants.{Nothing}
 use Rattle.enumeration.proofs.Tree.{begins}
-use Rattle.search.specs.declared.passes.Conflict.{Conflict}
-use Rattle.search.specs.declared.passes.Conflict.the-variants.{At}
-use Rattle.search.specs.declared.passes.Walk.{Walk}
-use Rattle.search.specs.Search.{Result}
+use Rattle.pass.specs.declared.Conflict.{Conflict}
+use Rattle.pass.specs.declared.Conflict.the-variants.{At}
+use Rattle.pass.specs.declared.Walk.{Walk}
+use Rattle.pass.specs.Passes.{Result}
 
 -- ---- the line
 

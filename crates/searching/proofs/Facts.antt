@@ -16,18 +16,19 @@ use Rattle.line.specs.Line.{fitted, idOf, idsOf}
 use Rattle.bridge.specs.declared.Bridge.{Bridge}
 use Rattle.bridge.proofs.Effects.{command-deviceReset}
 use Rattle.bridge.specs.Bridge.{command}
-use Rattle.search.specs.declared.passes.Conflict.the-variants.{Nowhere}
-use Rattle.search.specs.Search.{direction, absent, Result, searched, search}
+use Rattle.pass.specs.declared.Conflict.the-variants.{Nowhere}
+use Rattle.pass.specs.Pass.{direction}
+use Rattle.pass.specs.Passes.{absent, Result, searched, search}
 use Rattle.enumeration.proofs.Tree.{has, sorted, Sequences}
 use Rattle.enumeration.proofs.Bits.{has-split}
 use Rattle.enumeration.proofs.Passes.{sequence, sequences-some}
 use Rattle.enumeration.proofs.Leaves.{sorted-short, sorted-none, has-some}
-use Rattle.search.proofs.Words.{Rest, Holds, Idle, Outcome, Facts}
-use Rattle.search.proofs.Wire.{lineOf-parts}
-use Rattle.search.proofs.Pass.{reset-ppd}
-use Rattle.search.proofs.Holds.{holds-command}
-use Rattle.search.proofs.Onward.{searched-absent}
-use Rattle.search.proofs.Outcomes.{no-snoc, searched-outcome, searched-enough}
+use Rattle.searching.proofs.Words.{Rest, Holds, Idle, Outcome, Facts}
+use Rattle.searching.proofs.Wire.{lineOf-parts}
+use Rattle.searching.proofs.Pass.{reset-ppd}
+use Rattle.searching.proofs.Holds.{holds-command}
+use Rattle.searching.proofs.Next.{searched-absent}
+use Rattle.searching.proofs.Outcomes.{no-snoc, searched-outcome, searched-enough}
 
 -- the first pass asks for 0 everywhere
 first-pass : (ids : List ℕ) → has ids 0 0 ≡ true → Sequences (has ids) 64 0 0 (direction 0 Nowhere) (sorted ids)

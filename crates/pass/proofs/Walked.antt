@@ -11,9 +11,9 @@ use native.Mathlib.Omega.{arith}
 use Rattle.probe.specs.Probe.{digit}
 use Rattle.bridge.specs.declared.Bridge.{Bridge}
 use Rattle.bridge.specs.Bridge.{command}
-use Rattle.search.specs.declared.passes.Conflict.{Conflict}
-use Rattle.search.specs.declared.passes.Walk.{Walk}
-use Rattle.search.specs.Search.{direction, noted, tripletByte, tookTriplet, tripled, walked}
+use Rattle.pass.specs.declared.Conflict.{Conflict}
+use Rattle.pass.specs.declared.Walk.{Walk}
+use Rattle.pass.specs.Pass.{direction, noted, tripletByte, tookTriplet, tripled, walked}
 
 module _ (i : ℕ) (c : Conflict) (k : ℕ) (w : Walk) where
   -- the bridge after the triplet shows the bit taken and the two levels

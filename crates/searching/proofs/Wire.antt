@@ -29,8 +29,8 @@ use Rattle.line.specs.declared.Line.{Line}
 use Rattle.line.specs.Line.{all, fitted, idOf, idsOf, onFitted, level, slot, resetAll, slots}
 use Rattle.enumeration.proofs.Tree.{begins, has, child}
 use Rattle.enumeration.proofs.Bits.{begins-child}
-use Rattle.search.proofs.Words.Rest.{free, over}
-use Rattle.search.proofs.Words.{Rest, lineOf, heard, gathered, searchingIn, markedSelected, stand, standing}
+use Rattle.searching.proofs.Words.Rest.{free, over}
+use Rattle.searching.proofs.Words.{Rest, lineOf, heard, gathered, searchingIn, markedSelected, stand, standing}
 
 -- ---- a line by its probes
 

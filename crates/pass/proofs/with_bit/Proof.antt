@@ -1,4 +1,4 @@
--- `passes::with_bit` meets its contract: the new bit stands above the others, and 2 ^ k fits 64 bits.
+-- `with_bit` meets its contract: the new bit stands above the others, and 2 ^ k fits 64 bits.
 use mathlib.Core.Path.{_≡_, ap, _∙_}
 use Prim.Native.Nat.{ℕ, _+_, _*_, _%_, _^_, _<_, _≤_}
 use native.Mathlib.Nat.{one-mul, pow-suc}
@@ -7,8 +7,8 @@ use native.Mathlib.Omega.{arith}
 use lib.Pow.{pow-mono, shl-exact}
 use lib.Dec.{lit<}
 use borrow.Author.Needs.{needs}
-use Rattle.search.proofs.passes.with_bit.Statement.{statement}
-use Rattle.search.proofs.passes.with_bit.Tie as tie
+use Rattle.pass.proofs.with_bit.Statement.{statement}
+use Rattle.pass.proofs.with_bit.Tie as tie
 
 -- the bit by itself
 weight : (k : ℕ) → k < 64 → (1 * 2 ^ k) % 2 ^ 64 ≡ 2 ^ k

@@ -1,9 +1,9 @@
--- `passes::command` meets its contract: it is the two calls in a row.
+-- `command` meets its contract: it is the two calls in a row.
 use mathlib.Core.Path.{ap, _∙_}
 use Rattle.bridge.specs.Bridge.{afterTime, command}
 use borrow.Author.Needs.{needs}
-use Rattle.search.proofs.passes.command.Statement.{statement}
-use Rattle.search.proofs.passes.command.Tie as tie
+use Rattle.pass.proofs.command.Statement.{statement}
+use Rattle.pass.proofs.command.Tie as tie
 
 write-requires : tie.Need-write-requires
 write-requires c κs = search needs

@@ -1,16 +1,16 @@
--- `passes::triplets` meets its contract: what is left of the walk is the triplets from bit k on.
+-- `triplets` meets its contract: what is left of the walk is the triplets from bit k on.
 use mathlib.Core.Path.{_≡_, refl, sym, ap, _∙_}
 use mathlib.Core.List.{[], _∷_}
 use Prim.Native.Nat.{ℕ, _^_, _<_, _≤_, _-_}
 use native.Mathlib.Omega.{arith}
 use lib.Dec.{lit<}
 use Rattle.bridge.specs.Bridge.{command}
-use Rattle.search.specs.declared.passes.Walk.{Walk}
-use Rattle.search.specs.Search.{walked, begun, tripletByte}
-use Rattle.search.proofs.Walked.{tripled-by, walked-next, walked-none}
+use Rattle.pass.specs.declared.Walk.{Walk}
+use Rattle.pass.specs.Pass.{walked, begun, tripletByte}
+use Rattle.pass.proofs.Walked.{tripled-by, walked-next, walked-none}
 use borrow.Author.Needs.{needs}
-use Rattle.search.proofs.passes.triplets.Statement.{statement}
-use Rattle.search.proofs.passes.triplets.Tie as tie
+use Rattle.pass.proofs.triplets.Statement.{statement}
+use Rattle.pass.proofs.triplets.Tie as tie
 
 abbrev Inv-loop : tie.InvT-loop
 Inv-loop previous before bridge₀ id₀ conflict₀ silent₀ k₀ bridge id conflict silent k =

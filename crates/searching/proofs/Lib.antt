@@ -1,0 +1,7 @@
+pub mod Words
+pub mod Wire
+pub mod Holds
+pub mod Pass
+pub mod Next
+pub mod Outcomes
+pub mod Facts

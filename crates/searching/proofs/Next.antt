@@ -1,0 +1,40 @@
+-- One pass of the passes that are allowed, by how it ends.
+--   next i c b       the pass that `searched` takes next
+--   searched-absent, searched-broken, searched-next    no presence, levels 1,1, or an ID and what comes after it
+use mathlib.Core.Path.{_≡_, ap, ap₂, _∙_}
+use mathlib.Core.Bool.{Bool, true, false, cond}
+use mathlib.Core.List.{[], _∷_}
+use Prim.Native.Nat.{ℕ, suc}
+use Rattle.bridge.specs.declared.Bridge.{Bridge}
+use Rattle.bridge.specs.Bridge.{command}
+use Rattle.pass.specs.declared.Conflict.{Conflict}
+use Rattle.pass.specs.declared.Walk.{Walk}
+use Rattle.pass.specs.Pass.{passed}
+use Rattle.pass.specs.Passes.{Result, absent, broken, continued, searched}
+
+-- the pass that `searched` takes next
+abbrev pub next : ℕ → Conflict → Bridge → Walk
+next i c b = passed i c (command (0xB4 ∷ []) b)
+
+-- what a pass comes to, by presence and levels
+abbrev met : (ppd silent : Bool) (m i : ℕ) → Conflict → Bridge → Result
+met ppd silent m i c b =
+    cond ppd
+    (cond silent (broken (next i c b .bridge))
+    (continued (next i c b .conflict) (next i c b) (searched m (next i c b .id) (next i c b .conflict) (next i c b .bridge))))
+    (absent (command (0xB4 ∷ []) b))
+
+module _ (m i : ℕ) (c : Conflict) (b : Bridge) where
+  pub searched-absent : command (0xB4 ∷ []) b .ppd ≡ false → searched (suc m) i c b ≡ absent (command (0xB4 ∷ []) b)
+  unfolding searched
+  searched-absent p = ap (λ (x : Bool). met x (next i c b .silent) m i c b) p
+
+  pub searched-broken : command (0xB4 ∷ []) b .ppd ≡ true → next i c b .silent ≡ true → searched (suc m) i c b ≡ broken (next i c b .bridge)
+  unfolding searched
+  searched-broken p s = ap₂ (λ (x y : Bool). met x y m i c b) p s
+
+  pub searched-next : (q : Conflict) → command (0xB4 ∷ []) b .ppd ≡ true → next i c b .silent ≡ false → next i c b .conflict ≡ q → searched (suc m) i c b ≡ continued q (next i c b) (searched m (next i c b .id) q (next i c b .bridge))
+  unfolding searched
+  searched-next q p s e =
+      ap₂ (λ (x y : Bool). met x y m i c b) p s
+      ∙ ap (λ (v : Conflict). continued v (next i c b) (searched m (next i c b .id) v (next i c b .bridge))) e
