@@ -6,7 +6,7 @@
 --   endOf-low                                   each event takes two bits at least
 --   countOf-most                                a well-formed script has at most 16,376 events
 use mathlib.Core.Path.{_≡_, refl, ap, ap₂}
-use mathlib.Core.Bool.{Bool, true, false, cond, _&&_, false≢true}
+use mathlib.Core.Bool.{Bool, true, false, cond, _&&_, and-eq-true-iff}
 use mathlib.Core.List.{List}
 use Prim.Native.Nat.{ℕ, zero, suc, _+_, _-_, _*_, _/_, _%_, _<_, _≤_}
 use native.Mathlib.Omega.{arith}
@@ -86,14 +86,6 @@ endOf-low s (suc n) k = omega (arith, endOf-low s n (k + sizeAt s k), sizeAt-low
 
 -- ---- a well-formed script
 
-and-left : (a b : Bool) → (a && b) ≡ true → a ≡ true
-and-left true b h = refl
-and-left false b h = h
-
-and-right : (a b : Bool) → (a && b) ≡ true → b ≡ true
-and-right true b h = h
-and-right false b h = absurd (false≢true h)
-
 -- 4,096 bytes have 32,752 bits behind the count, and no event takes fewer than two
 pub countOf-most : (s : List ℕ) → isScript s ≡ true → countOf s ≤ 16376
 unfolding isScript isPadded
@@ -101,6 +93,8 @@ countOf-most s h =
     let e = endOf s (countOf s) 16 in
     let w = 8 * length s in
     let sized = leb (length s) 4096 && leb 2 (length s) in
-    let inside : leb e w ≡ true = and-left (leb e w) (ltb w (e + 8)) (and-left (leb e w && ltb w (e + 8)) (eqb (numberAt s e (w - e)) 0) (and-right sized (isPadded s e) h)) in
-    let short : leb (length s) 4096 ≡ true = and-left (leb (length s) 4096) (leb 2 (length s)) (and-left sized (isPadded s e) h) in
+    let both = and-eq-true-iff sized (isPadded s e) .0 h in
+    let placed = and-eq-true-iff (leb e w && ltb w (e + 8)) (eqb (numberAt s e (w - e)) 0) .0 (both .1) in
+    let inside : leb e w ≡ true = and-eq-true-iff (leb e w) (ltb w (e + 8)) .0 (placed .0) .0 in
+    let short : leb (length s) 4096 ≡ true = and-eq-true-iff (leb (length s) 4096) (leb 2 (length s)) .0 (both .0) .0 in
     omega (arith, leb-true (length s) 4096 short, leb-true e w inside, endOf-low s (countOf s) 16)
