@@ -1,21 +1,16 @@
 -- `checksum::crc16` meets its contract: the constant and the table differ nowhere, which antt computes.
 use native.Mathlib.Omega.{arith}
 use mathlib.Core.Path.{refl}
-use borrow.Table.Row
 use borrow.Author.Needs.{needs}
 use Rattle.checksum.specs.Register.{tableOf, entries, entered, taps16, taps, shifts, shifted}
 use Rattle.checksum.proofs.Shift.{crc16Of-lt}
 use Rattle.checksum.proofs.Table.{differ, same}
 use Rattle.checksum.proofs.crc16.Statement.{statement}
 use Rattle.checksum.proofs.crc16.Tie as tie
-use Rattle.checksum.proofs.crc16.Lts as lts
-use Rattle.checksum.proofs.crc16.Reads as reads
 
 through16-requires : tie.Need-through16-requires
 unfolding differ tableOf entries entered taps16 taps shifts shifted
-through16-requires c κs =
-    let table = Row.get 4 (lts.T6 .locals) (lts.m4 _ reads.Pre reads.Post (c .before) (c .through16-arg .given)) in
-    same (table .now) (tableOf taps16) refl
+through16-requires c κs = same _ (tableOf taps16) refl
 
 cast-result : tie.Need-cast-result
 cast-result c = omega (arith, c .through16 .ensures, crc16Of-lt (c .before .before .before .args .bytes .now))
