@@ -1,5 +1,5 @@
 -- `identity::refusal` meets its contract: each return goes by the tests that led to it.
-use mathlib.Core.Path.{_≡_, sym, _∙_}
+use mathlib.Core.Path.{_≡_, refl, sym, _∙_}
 use mathlib.Core.List.{List}
 use Prim.Native.Nat.{ℕ}
 use native.Mathlib.Omega.{arith}
@@ -14,7 +14,7 @@ use Rattle.identity.proofs.refusal.Tie as tie
 
 wrong-crc : (s : List ℕ) → (crc8Of (take 7 s) ≡ getD s 7 0 → ⊥) → 2 ≡ refusalOf s
 unfolding refusalOf crcRight
-wrong-crc s h = simp (ne-eqb _ _ h)
+wrong-crc s h = simp (ne-eqb _ _ h) refl
 
 zero-family : (s : List ℕ) → crc8Of (take 7 s) ≡ getD s 7 0 → getD s 0 0 ≡ 0 → 3 ≡ refusalOf s
 unfolding refusalOf crcRight familyOf
