@@ -193,7 +193,7 @@ unfoldable pub finishedReset : Bridge → Bridge
 finishedReset b =
     finished (b .dir) (b .tsb) (b .sbr) (present (b .line)) (b .readout) (resetAll (b .line)) b
 
--- 87h Single Bit: one slot; SBR is the line level.
+-- 87h Single Bit: one slot; SBR is the line level, and DIR stays.
 unfoldable pub finishedBit : Bool → Bridge → Bridge
 finishedBit w b =
     finished (b .dir) (b .tsb) (level w (b .line)) (b .ppd) (b .readout) (slot w (b .line)) b

@@ -1,4 +1,4 @@
--- Bytes put into a lent buffer.
+-- Bytes put into a lent buffer (document 01, "Packets": bytes behind the packet stay).
 --   over p d        p at the front of the buffer d, and the bytes behind p as they were
 --   placed n s d    s at the place n of the buffer d, and the other bytes as they were
 use Prim.Native.Nat.{ℕ, _+_}

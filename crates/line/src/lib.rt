@@ -60,7 +60,7 @@ impl Line {
         0 < self.count
     }
 
-    // How many entries are fitted. No line has more than 64, so the bound is never met; with it the loops need no premise. The
+    // How many entries are fitted. No line that calls reach has more than 64; with the bound the loops need no premise. The
     // last clause is the answer, the others are what a loop over the entries asks.
     pub fn entries(self) -> usize
         ensures { λ r. ⌜ (length (self .probes) ≡ 64) × (r ≤ 64)

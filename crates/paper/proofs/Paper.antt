@@ -6,6 +6,8 @@ use mathlib.Core.Path.{_≡_, refl, subst⁻¹}
 use native.Mathlib.Omega.{arith}
 use Rattle.checksum.specs.Register.{crc8Of, crc16Of, crcFrom, entered, shifts, shifted, taps, taps8, taps16}
 use Rattle.identity.specs.Identity.{numberOf, bitOf, crcRight, familyOf, refusalOf}
+use Rattle.line.specs.declared.Line.{Line}
+use Rattle.line.specs.Line.{fitNumber}
 use Rattle.enumeration.specs.Order.{Before, Among, InOrder}
 use Rattle.reading.specs.declared.Reading.the-variants.{Refused}
 use Rattle.packet.specs.Request.{read, bodyOf, invertedOf, sealOf, packetOf}
@@ -25,9 +27,9 @@ p3 : crc8Of (0x19 ∷ 0x02 ∷ 0 ∷ 0 ∷ 0 ∷ 0 ∷ 0 ∷ []) ≡ 0x59
 unfolding crc8Of crcFrom entered shifts shifted taps8 taps
 p3 = refl
 
-p4 : (crc8Of (0 ∷ 0 ∷ 0 ∷ 0 ∷ 0 ∷ 0 ∷ 0 ∷ []) ≡ 0) × (refusalOf (0 ∷ 0 ∷ 0 ∷ 0 ∷ 0 ∷ 0 ∷ 0 ∷ 0 ∷ []) ≡ 3)
-unfolding refusalOf crcRight familyOf crc8Of crcFrom entered shifts shifted taps8 taps
-p4 = (refl, refl)
+p4 : (crc8Of (0 ∷ 0 ∷ 0 ∷ 0 ∷ 0 ∷ 0 ∷ 0 ∷ []) ≡ 0) × ((l : Line) → fitNumber (0 ∷ 0 ∷ 0 ∷ 0 ∷ 0 ∷ 0 ∷ 0 ∷ 0 ∷ []) l ≡ 3)
+unfolding fitNumber refusalOf crcRight familyOf crc8Of crcFrom entered shifts shifted taps8 taps
+p4 = (refl, λ l. refl)
 
 -- B and A are alike in the eight bits of their family
 alike : (k : ℕ) → k < 8 → bitOf (numberOf b) k ≡ bitOf (numberOf a) k

@@ -10,6 +10,8 @@ use mathlib.Core.Path.{_≡_}
 use lib.ListN.{take}
 use Rattle.checksum.specs.Register.{crc8Of}
 use Rattle.identity.specs.Identity.{numberOf, refusalOf}
+use Rattle.line.specs.declared.Line.{Line}
+use Rattle.line.specs.Line.{fitNumber}
 use Rattle.enumeration.specs.Order.{InOrder}
 use Rattle.reading.specs.declared.Reading.the-variants.{Refused}
 use Rattle.packet.specs.Request.{read, packetOf}
@@ -36,8 +38,8 @@ pub record Paper : Type 0 where
   pub p1 : crc8Of (take 7 c) ≡ 0xA2
   pub p2 : crc8Of (take 7 a) ≡ 0x00
   pub p3 : crc8Of (take 7 b) ≡ 0x59
-  -- eight zeros: the CRC is right, and the refusal is 3
-  pub p4 : (crc8Of (0 ∷ 0 ∷ 0 ∷ 0 ∷ 0 ∷ 0 ∷ 0 ∷ []) ≡ 0) × (refusalOf (0 ∷ 0 ∷ 0 ∷ 0 ∷ 0 ∷ 0 ∷ 0 ∷ 0 ∷ []) ≡ 3)
+  -- eight zeros: the CRC is right, and any line refuses them with 3
+  pub p4 : (crc8Of (0 ∷ 0 ∷ 0 ∷ 0 ∷ 0 ∷ 0 ∷ 0 ∷ []) ≡ 0) × ((l : Line) → fitNumber (0 ∷ 0 ∷ 0 ∷ 0 ∷ 0 ∷ 0 ∷ 0 ∷ 0 ∷ []) l ≡ 3)
   -- A, B, C in search order: C, B, A
   pub p5 : InOrder (numberOf a ∷ numberOf b ∷ numberOf c ∷ []) (numberOf c ∷ numberOf b ∷ numberOf a ∷ [])
   -- a read, address 20h, 2 bytes

@@ -5,12 +5,13 @@
 --   isSealed p        the last two bytes are the checksum of those before
 --   readingOf p       what the reader gives: the parts, 13 or 14
 --   numberOf r        the number of an answer of the reader: 0 for the parts
+--   valuesOf r        its values: code, address, where the data starts, how long it is, R; a refusal has none
 --   dataIn r p        the write data that an answer tells of, as that part of the packet p
 --   partsOf q         the parts that stand for the request q
 --   requestIn r p     the request that the parts r of the packet p stand for
 use Prim.Native.Nat.{ℕ, _+_, _-_, _/_, _%_}
 use mathlib.Core.Bool.{Bool, cond, _&&_}
-use mathlib.Core.List.{List, []}
+use mathlib.Core.List.{List, [], _∷_}
 use lib.Dec.{eqb, leb}
 use lib.ListN.{length, getD, take, drop}
 use Rattle.packet.specs.Request.{Request, write, read, writeRead, invertedOf}
@@ -79,12 +80,17 @@ abbrev pub numberOf : Reading → ℕ
 numberOf (Parts c a b l r) = 0
 numberOf (Refused n) = n
 
+-- Its values. No data starts at 0 with length 0, and where there is no R it is given as 0; a refusal returns its number alone.
+abbrev pub valuesOf : Reading → List ℕ
+valuesOf (Parts c a b l r) = c ∷ a ∷ b ∷ l ∷ r ∷ []
+valuesOf (Refused n) = []
+
 -- The write data lies in the packet where the parts say; for 87h and for a refused packet it is empty.
 unfoldable pub dataIn : Reading → List ℕ → List ℕ
 dataIn (Parts c a b l r) p = take l (drop b p)
 dataIn (Refused n) p = []
 
--- The values of an accepted packet: code, address, where the data starts and how long it is, R. No data starts at 0 with length 0; no R is 0.
+-- The parts that stand for a request.
 unfoldable pub partsOf : Request → Reading
 partsOf (write a d) = Parts 0x4B a 3 (length d) 0
 partsOf (read a r) = Parts 0x87 a 0 0 r

@@ -19,7 +19,7 @@ use Rattle.pass.specs.declared.Conflict.the-variants.{Nowhere, At}
 use Rattle.pass.specs.declared.Walk.{Walk}
 use Rattle.pass.specs.Pass.{passed}
 use Rattle.pass.specs.Passes.{Result, before, continued, searched}
-use Rattle.searching.proofs.Next.{next, searched-absent, searched-broken, searched-next}
+use Rattle.pass.proofs.Next.{next, searched-absent, searched-broken, searched-next}
 use Rattle.search.specs.declared.passes.Found.{Found}
 use Rattle.search.specs.Found.{resultOf}
 

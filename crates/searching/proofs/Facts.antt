@@ -27,7 +27,7 @@ use Rattle.searching.proofs.Words.{Rest, Holds, Idle, Outcome, Facts}
 use Rattle.searching.proofs.Wire.{lineOf-parts}
 use Rattle.searching.proofs.Pass.{reset-ppd}
 use Rattle.searching.proofs.Holds.{holds-command}
-use Rattle.searching.proofs.Next.{searched-absent}
+use Rattle.pass.proofs.Next.{searched-absent}
 use Rattle.searching.proofs.Outcomes.{no-snoc, searched-outcome, searched-enough}
 
 -- the first pass asks for 0 everywhere

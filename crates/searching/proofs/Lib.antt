@@ -2,6 +2,5 @@ pub mod Words
 pub mod Wire
 pub mod Holds
 pub mod Pass
-pub mod Next
 pub mod Outcomes
 pub mod Facts

@@ -20,12 +20,12 @@ use Rattle.pass.specs.declared.Conflict.{Conflict}
 use Rattle.pass.specs.declared.Conflict.the-variants.{Nowhere, At}
 use Rattle.pass.specs.declared.Walk.{Walk}
 use Rattle.pass.specs.Pass.{direction}
-use Rattle.pass.specs.Passes.{Result, lastOne, before, continued, searched}
+use Rattle.pass.specs.Passes.{Result, lastOne, before, searched}
 use Rattle.enumeration.proofs.Tree.{has, ending, last, after, Sequences}
 use Rattle.enumeration.proofs.Tree.Sequences.{ends, goes}
 use Rattle.searching.proofs.Words.{Rest, lineOf, standing, onto, Under, Idle, Outcome}
 use Rattle.searching.proofs.Wire.{count-lineOf}
-use Rattle.searching.proofs.Next.{next, searched-next}
+use Rattle.pass.proofs.Next.{next, searched-last, searched-more}
 use Rattle.searching.proofs.Pass.{reset-ppd, passed-on, under-idle}
 
 -- ---- one pass of the search
@@ -64,15 +64,15 @@ module _ (ids : List ℕ) (rest : Rest) (there : has ids 0 0 ≡ true) where
     ended = passed-on t i c there .0
 
     searched-ends : (m : ℕ) → last (has ids) (direction i c) 64 0 0 ≡ none → searched (suc m) i c b ≡ lastOne (next i c b)
-    unfolding onto continued
+    unfolding onto
     searched-ends m e =
-        searched-next m i c b Nowhere presence (ended .loud)
+        searched-last m i c b presence (ended .loud)
         (passed-on t i c there .1 ∙ ap (λ (p : Option ℕ). onto p Nowhere) e)
 
     searched-goes : (m x q : ℕ) → ending (has ids) (direction i c) 64 0 0 ≡ x → last (has ids) (direction i c) 64 0 0 ≡ some q → searched (suc m) i c b ≡ before x (searched m x (At q) (next i c b .bridge))
-    unfolding onto continued
+    unfolding onto
     searched-goes m x q e f =
-        searched-next m i c b (At q) presence (ended .loud)
+        searched-more m i c b q presence (ended .loud)
         (passed-on t i c there .1 ∙ ap (λ (p : Option ℕ). onto p Nowhere) f)
         ∙ ap (λ (y : ℕ). before y (searched m y (At q) (next i c b .bridge))) (ended .path ∙ e)
 

@@ -1,5 +1,5 @@
 -- What the bench prints for a script (document 01, "The bench script").
---   decimal n           n in decimal digits, no leading zeros
+--   decimal n           n, which is below 100,000, in decimal digits, no leading zeros
 --   hexadecimal n       a byte as two upper-case hexadecimal digits
 --   Step                what an event gives: its letter, its printed value, the bridge afterwards
 --   stepAt s k b        the event at bit k of the script s, run on the bridge b

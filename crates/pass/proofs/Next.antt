@@ -1,16 +1,18 @@
 -- One pass of the passes that are allowed, by how it ends.
 --   next i c b       the pass that `searched` takes next
 --   searched-absent, searched-broken, searched-next    no presence, levels 1,1, or an ID and what comes after it
+--   searched-last, searched-more                       that ID is the last one; or the next pass begins with a conflict
 use mathlib.Core.Path.{_≡_, ap, ap₂, _∙_}
 use mathlib.Core.Bool.{Bool, true, false, cond}
 use mathlib.Core.List.{[], _∷_}
 use Prim.Native.Nat.{ℕ, suc}
 use Rattle.bridge.specs.declared.Bridge.{Bridge}
 use Rattle.bridge.specs.Bridge.{command}
 use Rattle.pass.specs.declared.Conflict.{Conflict}
+use Rattle.pass.specs.declared.Conflict.the-variants.{Nowhere, At}
 use Rattle.pass.specs.declared.Walk.{Walk}
 use Rattle.pass.specs.Pass.{passed}
-use Rattle.pass.specs.Passes.{Result, absent, broken, continued, searched}
+use Rattle.pass.specs.Passes.{Result, absent, broken, lastOne, before, continued, searched}
 
 -- the pass that `searched` takes next
 abbrev pub next : ℕ → Conflict → Bridge → Walk
@@ -38,3 +40,11 @@ module _ (m i : ℕ) (c : Conflict) (b : Bridge) where
   searched-next q p s e =
       ap₂ (λ (x y : Bool). met x y m i c b) p s
       ∙ ap (λ (v : Conflict). continued v (next i c b) (searched m (next i c b .id) v (next i c b .bridge))) e
+
+  pub searched-last : command (0xB4 ∷ []) b .ppd ≡ true → next i c b .silent ≡ false → next i c b .conflict ≡ Nowhere → searched (suc m) i c b ≡ lastOne (next i c b)
+  unfolding continued
+  searched-last p s e = searched-next Nowhere p s e
+
+  pub searched-more : (q : ℕ) → command (0xB4 ∷ []) b .ppd ≡ true → next i c b .silent ≡ false → next i c b .conflict ≡ At q → searched (suc m) i c b ≡ before (next i c b .id) (searched m (next i c b .id) (At q) (next i c b .bridge))
+  unfolding continued
+  searched-more q p s e = searched-next (At q) p s e
