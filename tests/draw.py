@@ -27,23 +27,12 @@ def done(*data):
     return [write(*data), WAIT]
 
 
-def crc8(data):
-    register = 0
-    for bit in (byte >> i & 1 for byte in data for i in range(8)):
-        register = register >> 1 ^ 0x8C * ((register ^ bit) & 1)
-    return bytes([register])
-
-
-def with_crc(data):
-    return bytes(data) + crc8(data)
-
-
 def new_id(source):
     """A right ID. Two of them differ in few bits, so that a search goes on for long before they part."""
     body = bytearray([source.choice((0x28, 0x28, 0x19, 0x02)), *bytes(6)])
     for _ in range(source.randrange(5)):
         body[source.randrange(1, 7)] ^= 1 << source.randrange(8)
-    return with_crc(body)
+    return tool.with_crc(body)
 
 
 def fitting(source, fitted):
@@ -52,7 +41,7 @@ def fitting(source, fitted):
     if way == 0:
         probe = probe[:7] + bytes([probe[7] ^ 1 << source.randrange(8)])
     elif way == 1:
-        probe = with_crc(bytes(1) + probe[1:7])
+        probe = tool.with_crc(bytes(1) + probe[1:7])
     elif way == 2:
         probe = bytes(1) + probe[1:]
     elif way == 3 and fitted:
