@@ -7,6 +7,8 @@
 --   numberOf r        the number of an answer of the reader: 0 for the parts
 --   valuesOf r        its values: code, address, where the data starts, how long it is, R; a refusal has none
 --   dataIn r p        the write data that an answer tells of, as that part of the packet p
+--   startIn r         where in the packet it begins
+--   placeFrom m n     the place in memory n bytes behind m
 --   partsOf q         the parts that stand for the request q
 --   requestIn r p     the request that the parts r of the packet p stand for
 use Prim.Native.Nat.{ℕ, _+_, _-_, _/_, _%_}
@@ -89,6 +91,14 @@ valuesOf (Refused n) = []
 unfoldable pub dataIn : Reading → List ℕ → List ℕ
 dataIn (Parts c a b l r) p = take l (drop b p)
 dataIn (Refused n) p = []
+
+-- It is that part of the packet itself: a place in memory is a block and an offset, and the part begins so far behind the packet's place.
+unfoldable pub startIn : Reading → ℕ
+startIn (Parts c a b l r) = b
+startIn (Refused n) = 0
+
+abbrev pub placeFrom : ℕ × ℕ → ℕ → ℕ × ℕ
+placeFrom p n = (p .0, p .1 + n)
 
 -- The parts that stand for a request.
 unfoldable pub partsOf : Request → Reading

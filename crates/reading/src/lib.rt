@@ -7,7 +7,8 @@
 ghost use mathlib.Core.Path.{_≡_};
 ghost use Prim.Native.Nat.{_-_};
 ghost use lib.ListN.{length};
-ghost use Rattle.reading.specs.Reading.{writeForm, readForm, writeReadForm, formOf, isSealed, readingOf, numberOf, dataIn};
+ghost use denote.Ref.{ptr};
+ghost use Rattle.reading.specs.Reading.{writeForm, readForm, writeReadForm, formOf, isSealed, readingOf, numberOf, dataIn, startIn, placeFrom};
 
 const DONE: u8 = 0;
 
@@ -188,6 +189,7 @@ pub fn read(packet: &[u8]) -> Reading
 // The write data of a packet, as that part of it; empty for 87h and for a refused packet.
 pub fn data_of(packet: &[u8]) -> &[u8]
     ensures { λ r. ⌜ now r ≡ dataIn (readingOf (now (packet .entry))) (now (packet .entry)) ⌝ }
+    ensures { λ r. ⌜ ptr r ≡ placeFrom (ptr (packet .entry)) (startIn (readingOf (now (packet .entry)))) ⌝ }
 {
     let Reading::Parts {
         code: _,

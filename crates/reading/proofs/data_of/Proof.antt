@@ -1,11 +1,11 @@
 -- `reading::data_of` meets its contract: the parts say where the data lies, which is within the packet.
 use mathlib.Core.Path.{refl, sym, ap, subst, _∙_}
 use Prim.Native.Nat.{ℕ, _+_, _≤_}
-use native.Mathlib.Nat.{add-sub-cancel-left}
+use native.Mathlib.Nat.{add-zero, add-comm, add-sub-cancel-left}
 use native.Mathlib.Omega.{arith}
 use lib.ListN.{length, take, drop}
 use Rattle.reading.specs.declared.Reading.{Reading}
-use Rattle.reading.specs.Reading.{dataIn}
+use Rattle.reading.specs.Reading.{dataIn, startIn, placeFrom}
 use Rattle.reading.proofs.Taken.{Within, reading-within}
 use borrow.Author.Needs.{needs}
 use Rattle.reading.proofs.data_of.Statement.{statement}
@@ -24,11 +24,15 @@ slice-aggregate-result : tie.Need-slice-aggregate-result
 slice-aggregate-result c = refl
 
 returns : tie.Need-returns
-unfolding dataIn
+unfolding dataIn startIn
 returns c =
     let e = c .before in
     let r = e .before .before in
-    sym (ap (λ (g : Reading). dataIn g (r .before .before .args .packet .now)) (sym (r .read .ensures) ∙ e .enum-told .given .1))
+    let packet = r .before .before .args .packet in
+    let refused = sym (r .read .ensures) ∙ e .enum-told .given .1 in (
+      sym (ap (λ (g : Reading). dataIn g (packet .now)) refused),
+      sym (ap (λ (g : Reading). placeFrom (packet .ptr) (startIn g)) refused ∙ ap (λ (k : ℕ). (packet .ptr .0, k)) (add-zero (packet .ptr .1))),
+    )
 
 -- the data lies within the packet
 lies : (c : tie.After-known-told) → c .before .start .given .0 .1 .1 .0 + c .before .start .given .0 .1 .1 .1 .0 ≤ length (c .before .before .before .before .before .args .packet .now)
@@ -51,15 +55,17 @@ part-result-end : tie.Need-part-result-end
 part-result-end c = lies c
 
 returns-2 : tie.Need-returns-2
-unfolding dataIn
+unfolding dataIn startIn
 returns-2 c =
     let e = c .before .before in
     let r = e .before .before in
     let s = e .start .given .0 .1 .1 .0 in
     let l = e .start .given .0 .1 .1 .1 .0 in
-    let p = r .before .before .args .packet .now in
-    ap (λ (k : ℕ). take k (drop s p)) (add-sub-cancel-left s l)
-    ∙ sym (ap (λ (g : Reading). dataIn g p) (sym (r .read .ensures) ∙ e .start .given .1))
+    let packet = r .before .before .args .packet in
+    let parts = sym (r .read .ensures) ∙ e .start .given .1 in (
+      ap (λ (k : ℕ). take k (drop s (packet .now))) (add-sub-cancel-left s l) ∙ sym (ap (λ (g : Reading). dataIn g (packet .now)) parts),
+      ap (λ (k : ℕ). (packet .ptr .0, k)) (add-comm s (packet .ptr .1)) ∙ sym (ap (λ (g : Reading). placeFrom (packet .ptr) (startIn g)) parts),
+    )
 
 pub data-of-spec : {M : Type 1} → statement M
 data-of-spec =

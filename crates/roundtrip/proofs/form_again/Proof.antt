@@ -74,7 +74,7 @@ reading-is c =
 
 data-is : (c : tie.After-data-of) → let v = c .before .before .reading .given .0 in c .data-of .result .now ≡ take (v .1 .1 .1 .0) (drop (v .1 .1 .0) (packet-of c))
 unfolding dataIn
-data-is c = c .data-of .ensures ∙ ap (λ (x : Reading). dataIn x (packet-of c)) (reading-is c)
+data-is c = c .data-of .ensures .0 ∙ ap (λ (x : Reading). dataIn x (packet-of c)) (reading-is c)
 
 again-with : (c : tie.After-data-of) (q : Request) → requestIn (parts-of c) (packet-of c) ≡ q → (formNumber q (buffer-of c) ≡ againNumber (packet-of c) (buffer-of c)) × (formed q (buffer-of c) ≡ formedAgain (packet-of c) (buffer-of c))
 again-with c q e =
