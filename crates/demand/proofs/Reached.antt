@@ -185,11 +185,11 @@ reached-sound r = kept-sound (reached-kept r)
 
 -- ---- a search is made of calls
 
-bytes-one : (x : ℕ) → x < 256 → Bytes (x ∷ [])
+pub bytes-one : (x : ℕ) → x < 256 → Bytes (x ∷ [])
 bytes-one x h zero = h
 bytes-one x h (suc k) = lit< tt
 
-bytes-two : (x y : ℕ) → x < 256 → y < 256 → Bytes (x ∷ y ∷ [])
+pub bytes-two : (x y : ℕ) → x < 256 → y < 256 → Bytes (x ∷ y ∷ [])
 bytes-two x y h g zero = h
 bytes-two x y h g (suc k) = bytes-one y g k
 

@@ -1,0 +1,195 @@
+-- What our search comes to from a state that calls reach, in the words of the demand.
+--   resumed-line     after a Resume exactly the probe that the last pass ended at is selected
+--   order-of         the IDs on the line in search order
+--   listed-of, number-of, complete-when, passes-used, longer-by, resume-last, fitting-one     the sentences of the demand, of `search`
+--   capped-at        more than 64 passes do what 64 do
+use mathlib.Core.Path.{_≡_, refl, sym, ap, ap₂, subst, subst⁻¹, _∙_}
+use mathlib.Core.Bool.{Bool, true, false, cond, _&&_}
+use mathlib.Core.List.{List, [], _∷_, _++_, map, Memᴰ·of-map, Memᴰ·append-left, Memᴰ·append-right}
+use mathlib.Core.List.List·Memᴰ.{List·Memᴰ·head}
+use Prim.Native.Nat.{ℕ, _^_, _<_, _≤_, min, max}
+use native.Mathlib.Omega.{arith}
+use lib.Dec.{eqb, leb}
+use lib.ListN.{length, take, drop, length-append, length-take, take-append-drop}
+use lib.Seq.{take-take, take-all}
+use Rattle.identity.specs.Identity.{numberOf}
+use Rattle.probe.specs.declared.Condition.the-variants.{Deaf, Selected}
+use Rattle.probe.specs.declared.Probe.{Probe}
+use Rattle.probe.specs.Probe.{deafNew, obeyed, resumed}
+use Rattle.line.specs.declared.Line.{Line}
+use Rattle.line.specs.Line.{fitted, idOf, idsOf, fitNumber}
+use Rattle.bridge.specs.declared.Bridge.{Bridge}
+use Rattle.bridge.specs.Bridge.{command, afterFitting}
+use Rattle.bridge.specs.Reached.{Bytes, Reached}
+use Rattle.bridge.specs.Reached.Reached.{fit}
+use Rattle.pass.specs.Passes.{search}
+use Rattle.enumeration.specs.Order.{Among, Narrow, InOrder}
+use Rattle.enumeration.proofs.Tree.{begins, sorted}
+use Rattle.enumeration.proofs.Order.{in-order-more}
+use Rattle.enumeration.proofs.Leaves.{sorted-in-order, begins-whole}
+use Rattle.searching.proofs.Words.{Rest, lineOf, gathered, markedSelected, standing, Facts}
+use Rattle.searching.proofs.Words.Rest.{free}
+use Rattle.searching.proofs.Wire.{fitted-lineOf, id-standing}
+use Rattle.searching.proofs.Holds.{obeyed-id, holds-command}
+use Rattle.searching.proofs.Pass.{commanded-line}
+use Rattle.searching.proofs.Facts.{search-facts, search-capped}
+use Rattle.demand.specs.Sound.{Sound}
+use Rattle.demand.specs.Demand.{idsAt, afterResume, Resumed}
+use Rattle.demand.proofs.Reached.{Kept, holds-ids, holds-length, holds-fit, new-id, reached-kept, reached-sound}
+
+-- ---- lists
+
+-- a list that is not empty has a last element
+last-one : (l : List ℕ) → 0 < length l → (p : List ℕ) × (x : ℕ) × (l ≡ p ++ x ∷ [])
+last-one [] h = absurd (omega arith)
+last-one (y ∷ []) h = ([], y, refl)
+last-one (y ∷ z ∷ l) h =
+    let r = last-one (z ∷ l) (omega arith) in
+    (y ∷ r .0, r .1, ap {B = List ℕ} (λ (q : List ℕ). y ∷ q) (r .2))
+
+take-longer : (m n : ℕ) (l : List ℕ) → m ≤ n → take n l ≡ take m l ++ drop m (take n l)
+take-longer m n l h = sym (take-append-drop m (take n l)) ∙ ap (λ (p : List ℕ). p ++ drop m (take n l)) (take-take m n l h)
+
+-- ---- Resume
+
+-- the probe that a pass ended at is marked, and no other
+resumed-condition : (x i : ℕ) → i < 2 ^ 64 → obeyed 0xA5 (standing 64 x i) .condition ≡ cond (eqb i x) Selected Deaf
+unfolding standing obeyed resumed
+resumed-condition x i lt = go (begins 64 x i) ∙ ap (λ (t : Bool). cond t Selected Deaf) (begins-whole x i lt)
+  where
+    go : (t : Bool) → obeyed 0xA5 (cond t (markedSelected i) (deafNew i)) .condition ≡ cond t Selected Deaf
+    go true = refl
+    go false = refl
+
+-- all fitted probes obeyed the Resume
+resumed-line : (x : ℕ) (ids : List ℕ) (rest : Rest) (l : Line) → Narrow ids → Among x (idsOf l) → l ≡ lineOf (map (obeyed 0xA5) (map (standing 64 x) ids)) rest → Resumed x l
+resumed-line x ids rest l narrow there e =
+    record {
+      there = there;
+      only =
+          λ p m.
+          let q = Memᴰ·of-map (obeyed 0xA5) (map (standing 64 x) ids) (subst (Among p) (ap fitted e ∙ fitted-lineOf _ rest) m) in
+          let j = Memᴰ·of-map (standing 64 x) ids (q .1) in
+          go p (j .0) (ap (obeyed 0xA5) (j .2) ∙ q .2) (narrow (j .0) (j .1));
+    }
+  where
+    go : (p : Probe) (i : ℕ) → obeyed 0xA5 (standing 64 x i) ≡ p → i < 2 ^ 64 → p .condition ≡ cond (eqb (p .id) x) Selected Deaf
+    go p i f lt =
+        ap (λ (v : Probe). v .condition) (sym f) ∙ resumed-condition x i lt
+        ∙ ap (λ (j : ℕ). cond (eqb j x) Selected Deaf)
+        (sym (id-standing 64 x i) ∙ sym (obeyed-id 0xA5 (standing 64 x i)) ∙ ap idOf f)
+
+-- ---- the search, from a state that calls reach
+
+module _ (s : Bridge) (r : Reached s) where
+  stock : Kept (s .line)
+  stock = reached-kept r
+
+  ids-at : idsAt s ≡ stock .ids
+  ids-at = holds-ids (stock .holds)
+
+  pub order-of : List ℕ
+  order-of = sorted (stock .ids)
+
+  pub order-is : InOrder (idsAt s) order-of
+  unfolding order-of
+  order-is =
+      subst⁻¹ (λ (ids : List ℕ). InOrder ids (sorted (stock .ids))) ids-at
+      (sorted-in-order (stock .ids) (stock .distinct) (stock .narrow))
+
+  found : (b : ℕ) → Facts (stock .ids) (free (stock .entries)) order-of b (search b s)
+  unfolding order-of
+  found b =
+      search-facts (stock .ids) (free (stock .entries)) s (stock .holds)
+      (λ e. holds-length (stock .holds) ∙ ap length e) b
+
+  pub listed-of : (b : ℕ) → search b s .ids ≡ take b order-of
+  listed-of b = found b .listed
+
+  -- both levels 1 come in no pass that began with presence
+  pub loud-of : (b : ℕ) → search b s .silent ≡ false
+  loud-of b = found b .loud
+
+  pub number-of : (b : ℕ) → length (search b s .ids) ≡ min b (length (idsAt s))
+  number-of b = ap length (found b .listed) ∙ length-take b order-of ∙ ap (min b) (order-is .once)
+
+  pub complete-when : (b : ℕ) → search b s .complete ≡ (leb 1 b && leb (length (idsAt s)) b)
+  complete-when b = found b .whole ∙ ap (λ (n : ℕ). leb 1 b && leb n b) (order-is .once)
+
+  pub passes-used : (b : ℕ) → search b s .passes ≡ min b (max 1 (length (idsAt s)))
+  passes-used b = found b .used ∙ ap (λ (n : ℕ). min b (max 1 n)) (order-is .once)
+
+  pub longer-by : (b n : ℕ) → b ≤ n → (t : List ℕ) × (search n s .ids ≡ search b s .ids ++ t)
+  longer-by b n h = (
+    drop b (take n order-of),
+    found n .listed ∙ take-longer b n order-of h
+        ∙ ap (λ (p : List ℕ). p ++ drop b (take n order-of)) (sym (found b .listed)),
+  )
+
+  pub kept-ids : (b : ℕ) → idsAt (search b s .bridge) ≡ idsAt s
+  kept-ids b = holds-ids (found b .holds) ∙ sym ids-at
+
+  pub resume-kept : (b : ℕ) → idsAt (afterResume (search b s .bridge)) ≡ idsAt s
+  resume-kept b =
+      holds-ids
+      (holds-command (0xA5 ∷ 0xA5 ∷ []) (command (0xB4 ∷ []) (search b s .bridge))
+      (holds-command (0xB4 ∷ []) (search b s .bridge) (found b .holds)))
+      ∙ sym ids-at
+
+  -- what is listed is on the line
+  listed-there : (b : ℕ) (p : List ℕ) (x : ℕ) → search b s .ids ≡ p ++ x ∷ [] → Among x (idsAt s)
+  listed-there b p x e =
+      order-is .only x
+      (subst (Among x) (take-append-drop b order-of)
+      (Memᴰ·append-left (drop b order-of)
+      (subst (Among x) (sym e ∙ found b .listed) (Memᴰ·append-right p (List·Memᴰ·head refl)))))
+
+  resumed-last : (b : ℕ) (p : List ℕ) (x : ℕ) → search b s .ids ≡ p ++ x ∷ [] → Resumed x (afterResume (search b s .bridge) .line)
+  unfolding gathered
+  resumed-last b p x e =
+      let c = found b .closing p x e in
+      resumed-line x (stock .ids) (free (stock .entries)) (afterResume (search b s .bridge) .line) (stock .narrow)
+      (subst⁻¹ (Among x) (resume-kept b) (listed-there b p x e))
+      (commanded-line (search b s .bridge) (map (standing 64 x) (stock .ids)) (free (stock .entries)) (c .0) (c .1) 0xA5)
+
+  pub resume-last : (b : ℕ) → 0 < length (search b s .ids) → (p : List ℕ) × (x : ℕ) × (search b s .ids ≡ p ++ x ∷ []) × Resumed x (afterResume (search b s .bridge) .line)
+  resume-last b h =
+      let l = last-one (search b s .ids) h in
+      (l .0, l .1, l .2, resumed-last b (l .0) (l .1) (l .2))
+
+  sound : Sound (s .line)
+  sound = reached-sound r
+
+  pub at-most : length (idsAt s) ≤ 64
+  at-most = omega (arith, sound .counted, sound .within)
+
+  pub capped-at : (b : ℕ) → search b s ≡ search (min b 64) s
+  capped-at = search-capped s (omega (arith, sound .entries)) (omega (arith, sound .entries))
+
+  -- the list of as many passes as IDs is whole
+  listed-whole : (b : ℕ) → length (idsAt s) ≤ b → search b s .ids ≡ order-of
+  listed-whole b h = found b .listed ∙ take-all b order-of (omega (arith, order-is .once))
+
+-- ---- one probe more
+
+ids-more : (s : Bridge) → Reached s → (x : List ℕ) → fitNumber x (s .line) ≡ 0 → idsAt (afterFitting x s) ≡ idsAt s ++ numberOf x ∷ []
+unfolding afterFitting
+ids-more s r x e =
+    holds-ids (holds-fit (stock s r .entries) x (stock s r .holds) (stock s r .full) e .2)
+    ∙ ap (λ (ids : List ℕ). ids ++ numberOf x ∷ []) (sym (ids-at s r))
+
+pub fitting-one : (s : Bridge) → Reached s → (x : List ℕ) → Bytes x → length x ≡ 8 → fitNumber x (s .line) ≡ 0 → (b : ℕ) → length (idsAt s) < b → (p : List ℕ) × (q : List ℕ) × (search b (afterFitting x s) .ids ≡ p ++ numberOf x ∷ q) × (search b s .ids ≡ p ++ q)
+fitting-one s r x bytes eight e b h =
+    let after = fit x bytes eight r in
+    let cut =
+    in-order-more (numberOf x) (λ y. new-id x (stock s r .holds) e (subst (Among (numberOf x)) (ids-at s r) y))
+    (order-is s r)
+    (subst (λ (ids : List ℕ). InOrder ids (order-of (afterFitting x s) after)) (ids-more s r x e)
+    (order-is (afterFitting x s) after)) in (
+      cut .0,
+      cut .1,
+      listed-whole (afterFitting x s) after b
+          (omega (arith, ap length (ids-more s r x e), length-append (idsAt s) (numberOf x ∷ [])))
+          ∙ cut .2,
+      listed-whole s r b (omega arith) ∙ cut .3,
+    )

@@ -1,0 +1,28 @@
+-- Every wrong version is refuted.
+use Rattle.refuted.specs.Refuted.{Refuted}
+use Rattle.refuted.proofs.Steps.{step-refuses, reader-refuses, status-fixed, write-lazy, time-lazy, rst-cleared, zero-written, triplet, crc-plain}
+use Rattle.refuted.proofs.Searches.{ours, rules, search-refuses, list-fixed, line-left, passes-made-up, passes-listed, numbers, one-noted, list-again}
+
+pub refuted : Refuted
+refuted =
+    record {
+      ours = ours;
+      rules = rules;
+      triplet = triplet;
+      searchRefuses = search-refuses;
+      stepRefuses = step-refuses;
+      readerRefuses = reader-refuses;
+      listFixed = list-fixed;
+      statusFixed = status-fixed;
+      writeLazy = write-lazy;
+      timeLazy = time-lazy;
+      lineLeft = line-left;
+      passesMadeUp = passes-made-up;
+      passesListed = passes-listed;
+      numbers = numbers;
+      oneNoted = one-noted;
+      listAgain = list-again;
+      rstCleared = rst-cleared;
+      zeroWritten = zero-written;
+      crcPlain = crc-plain;
+    }

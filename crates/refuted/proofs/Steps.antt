@@ -1,0 +1,77 @@
+-- The wrong steps and packets: one case for each, which computes.
+use Prim.Native.Nat.{ℕ, suc}
+use mathlib.Core.Bool.{Bool, true, false, true≢false, false≢true}
+use mathlib.Core.List.{List, [], _∷_}
+use mathlib.Core.Path.{_≡_, refl, sym, ap, _∙_}
+use native.Mathlib.Omega.{arith}
+use lib.Dec.{lit<}
+use lib.ListN.{length, getD}
+use Rattle.checksum.specs.Register.{crc16Of, crcFrom, entered, shifts, shifted, taps, taps16}
+use Rattle.line.specs.Line.{bare, fitted, all, level, slot, onFitted}
+use Rattle.bridge.specs.declared.Bridge.{Bridge}
+use Rattle.bridge.specs.Bridge.{powerOn, statusOf, busy, bytesOf, takenWhileBusy, goodParameter, writeNumber, afterWrite, obeyed, finishedReset, finishedTriplet, finishedOf, afterTime, chosen}
+use Rattle.bridge.specs.Reached.{Bytes, Reached}
+use Rattle.bridge.specs.Reached.Reached.{on, write}
+use Rattle.packet.specs.Request.{Request, read, bodyOf, invertedOf, sealOf, packetOf}
+use Rattle.reading.specs.declared.Reading.{Reading}
+use Rattle.reading.specs.declared.Reading.the-variants.{Refused}
+use Rattle.reading.specs.Reading.{readForm, formOf, isSealed, checked, readingOf, valuesOf}
+use Rattle.demand.proofs.Reached.{bytes-one, bytes-two}
+use Rattle.refuted.specs.Versions.{clearsRst, zeroAfterOnes, tripletBy, uninverted}
+
+-- ---- steps
+
+pub step-refuses : (k : ℕ) → ((x : List ℕ) → Bytes x → (s : Bridge) → Reached s → writeNumber x s ≡ suc k) → ⊥
+unfolding writeNumber bytesOf powerOn goodParameter
+step-refuses k h =
+    let e : 0 ≡ suc k = h (0xF0 ∷ []) (bytes-one 0xF0 (lit< tt)) powerOn on in
+    omega arith
+
+-- 18h at power-on, 08h after a configuration was written
+pub status-fixed : (v : ℕ) → ((s : Bridge) → Reached s → statusOf s ≡ v) → ⊥
+unfolding statusOf afterWrite writeNumber bytesOf powerOn goodParameter obeyed
+status-fixed v h =
+    let on-power : 0x18 ≡ v = h powerOn on in
+    let configured : 0x08 ≡ v = h (afterWrite (0xD2 ∷ 0xF0 ∷ []) powerOn) (write (0xD2 ∷ 0xF0 ∷ []) (bytes-two 0xD2 0xF0 (lit< tt) (lit< tt)) on) in
+    omega arith
+
+-- a configuration that is written clears RST
+pub write-lazy : ((x : List ℕ) → Bytes x → (s : Bridge) → Reached s → afterWrite x s ≡ s) → ⊥
+unfolding afterWrite writeNumber bytesOf powerOn goodParameter obeyed
+write-lazy h =
+    false≢true
+    (ap (λ (s : Bridge). s .rst) (h (0xD2 ∷ 0xF0 ∷ []) (bytes-two 0xD2 0xF0 (lit< tt) (lit< tt)) powerOn on))
+
+-- a 1-Wire Reset is pending until time passes
+pub time-lazy : ((s : Bridge) → Reached s → afterTime s ≡ s) → ⊥
+unfolding afterTime finishedOf finishedReset afterWrite writeNumber bytesOf powerOn goodParameter obeyed
+time-lazy h =
+    false≢true
+    (ap busy (h (afterWrite (0xB4 ∷ []) powerOn) (write (0xB4 ∷ []) (bytes-one 0xB4 (lit< tt)) on)))
+
+pub rst-cleared : ((s : Bridge) → Reached s → clearsRst s ≡ finishedReset s) → ⊥
+unfolding finishedReset powerOn
+rst-cleared h = false≢true (ap (λ (s : Bridge). s .rst) (h powerOn on))
+
+-- with no probe on the line both levels are 1
+pub zero-written : ((s : Bridge) → Reached s → (d : Bool) → tripletBy zeroAfterOnes d s ≡ finishedTriplet d s) → ⊥
+unfolding finishedTriplet powerOn bare level slot onFitted fitted all
+zero-written h = false≢true (ap (λ (s : Bridge). s .dir) (h powerOn on true))
+
+pub triplet : (d : Bool) (s : Bridge) → tripletBy chosen d s ≡ finishedTriplet d s
+unfolding finishedTriplet
+triplet d s = refl
+
+-- ---- packets: a read, address 20h, 2 bytes
+
+pub reader-refuses : (k : ℕ) → ((p : List ℕ) → readingOf p ≡ Refused k) → ⊥
+unfolding readingOf checked formOf readForm isSealed invertedOf crc16Of crcFrom entered shifts shifted taps16 taps
+reader-refuses k h =
+    let e : _≡_ {A = ℕ} 5 0 = ap (λ (r : Reading). length (valuesOf r)) (h (0x87 ∷ 0x41 ∷ 0x02 ∷ 0xFE ∷ 0x47 ∷ [])) in
+    omega arith
+
+pub crc-plain : ((q : Request) → uninverted q ≡ packetOf q) → ⊥
+unfolding packetOf bodyOf sealOf invertedOf crc16Of crcFrom entered shifts shifted taps16 taps
+crc-plain h =
+    let e : _≡_ {A = ℕ} 0x01 0xFE = ap (λ (p : List ℕ). getD p 3 0) (h (read 0x20 2)) in
+    omega arith

@@ -1,0 +1,192 @@
+-- Wrong versions (document 01, "Slips this trade knows" and "How tight the statements are").
+--   Finding              what the passes of a search come to, allowed so many, from a state
+--   callOf find          the search whose passes come to `find`: refused with 9 where the list buffer is too short, else listed
+--   alwaysRefuses k      the search that refuses with k, whatever it is asked
+--   fixedList l          the search that lists the IDs l on any line
+--   firstPassOnly        the search that moves the line in its first pass alone; the rest of its answer is right
+--   passesOf f           the search that tells of f b passes when it is allowed b
+--   passesAsListed       the search that tells of as many passes as it lists IDs
+--   sortedAsNumbers      the search that lists IDs by their size as numbers
+--   searchBy note follow the search with another rule of what is noted at a bit, and of what follows a pass
+--   notesOne             the search that notes a conflict where 1 was taken too
+--   startsAgain          the search that takes a pass more after the last one
+--   clearsRst s          a finished 1-Wire Reset that clears RST
+--   zeroAfterOnes        the bit of a triplet, 0 after levels 1,1
+--   tripletBy choose     the triplet with another rule of its bit
+--   uninverted q         the packet with its CRC-16 as the register has it
+use Prim.Native.Nat.{ℕ, zero, suc, _+_, _*_, _/_, _%_, _^_, min}
+use mathlib.Core.Bool.{Bool, true, false, cond}
+use mathlib.Core.List.{List, [], _∷_, _++_}
+use mathlib.Core.Path.{_≡_}
+use lib.Dec.{leb, ltb}
+use lib.ListN.{length, take, drop}
+use Rattle.checksum.specs.Register.{crc16Of}
+use Rattle.probe.specs.Probe.{digit}
+use Rattle.line.specs.Line.{level, slot, present, resetAll}
+use Rattle.bridge.specs.declared.Bridge.{Bridge}
+use Rattle.bridge.specs.declared.Pending.the-variants.{Nothing}
+use Rattle.bridge.specs.Bridge.{command, finished}
+use Rattle.pass.specs.declared.Conflict.{Conflict}
+use Rattle.pass.specs.declared.Conflict.the-variants.{Nowhere, At}
+use Rattle.pass.specs.declared.Walk.{Walk}
+use Rattle.pass.specs.Pass.{direction, tripletByte, noted, tookTriplet, begun}
+use Rattle.pass.specs.Passes.{Result, absent, exhausted, broken, before, continued, search}
+use Rattle.search.specs.declared.Answer.the-variants.{Listed, Refused}
+use Rattle.search.specs.Search.{listOf}
+use Rattle.packet.specs.Request.{Request, bodyOf}
+use Rattle.demand.specs.Demand.{Outcome, Search, idsAt}
+
+-- ---- searches
+
+abbrev pub Finding : Type 0
+Finding = ℕ → Bridge → Result
+
+-- What the call makes of a finding, as the library's does: the bound of the list buffer, the list at its front, the bytes behind it.
+unfoldable pub outcomeWith : Finding → Bridge → ℕ → List ℕ → Outcome
+outcomeWith find s b d =
+    let r = find b s in
+    let ids = listOf (r .ids) in
+    cond (ltb (length d) (8 * min b 64)) (record { answer = Refused 9; bridge = s; list = d })
+    (record {
+      answer = Listed (length (r .ids)) (r .passes) (r .complete);
+      bridge = r .bridge;
+      list = ids ++ drop (length ids) d;
+    })
+
+abbrev pub callOf : Finding → Search
+callOf find s b d o = o ≡ outcomeWith find s b d
+
+-- A search that always refuses.
+abbrev pub alwaysRefuses : ℕ → Search
+alwaysRefuses k s b d o = o ≡ record { answer = Refused k; bridge = s; list = d }
+
+-- A fixed list.
+abbrev pub fixedList : List ℕ → Finding
+fixedList l b s =
+    let r = search b s in
+    record { ids = take b l; passes = r .passes; complete = r .complete; silent = r .silent; bridge = r .bridge }
+
+-- A search that walks its first pass and fills in the others without moving the line.
+abbrev pub firstPassOnly : Finding
+firstPassOnly b s =
+    let r = search b s in
+    record {
+      ids = r .ids;
+      passes = r .passes;
+      complete = r .complete;
+      silent = r .silent;
+      bridge = search (min b 1) s .bridge;
+    }
+
+-- A made-up number of passes.
+abbrev pub passesOf : (ℕ → ℕ) → Finding
+passesOf f b s =
+    let r = search b s in
+    record { ids = r .ids; passes = f b; complete = r .complete; silent = r .silent; bridge = r .bridge }
+
+abbrev pub passesAsListed : Finding
+passesAsListed b s =
+    let r = search b s in
+    record { ids = r .ids; passes = length (r .ids); complete = r .complete; silent = r .silent; bridge = r .bridge }
+
+-- Sorting IDs as numbers.
+unfoldable pub inserted : ℕ → List ℕ → List ℕ
+inserted i [] = i ∷ []
+inserted i (j ∷ l) = cond (leb i j) (i ∷ j ∷ l) (j ∷ inserted i l)
+
+unfoldable pub ascending : List ℕ → List ℕ
+ascending [] = []
+ascending (i ∷ l) = inserted i (ascending l)
+
+abbrev pub sortedAsNumbers : Finding
+sortedAsNumbers b s =
+    let r = search b s in
+    record {
+      ids = take b (ascending (idsAt s));
+      passes = r .passes;
+      complete = r .complete;
+      silent = r .silent;
+      bridge = r .bridge;
+    }
+
+-- A search as document 01 has it, but for two rules: what is noted at a bit, and what follows a pass. With `noted` and `continued` it is
+-- the search itself.
+module _ (note : Bool → Bool → Bool → ℕ → Conflict → Conflict) (follow : Conflict → Walk → Result → Result) where
+  unfoldable pub tripledBy : ℕ → Conflict → ℕ → Walk → Walk
+  tripledBy i c k w =
+      let b = command (0x78 ∷ tripletByte (direction i c k) ∷ []) (w .bridge) in
+      let t = tookTriplet k b w in
+      record {
+        bridge = b;
+        id = t .id;
+        conflict = note (b .sbr) (b .tsb) (b .dir) k (w .conflict);
+        silent = t .silent;
+      }
+
+  unfoldable pub walkedBy : ℕ → ℕ → ℕ → Conflict → Walk → Walk
+  walkedBy zero k i c w = w
+  walkedBy (suc n) k i c w = walkedBy n (suc k) i c (tripledBy i c k w)
+
+  unfoldable pub searchedBy : ℕ → ℕ → Conflict → Bridge → Result
+  searchedBy zero i c b = exhausted b
+  searchedBy (suc n) i c b =
+      let r = command (0xB4 ∷ []) b in
+      let w = walkedBy 64 0 i c (begun (command (0xA5 ∷ 0xF0 ∷ []) r)) in
+      cond (r .ppd)
+      (cond (w .silent) (broken (w .bridge)) (follow (w .conflict) w (searchedBy n (w .id) (w .conflict) (w .bridge))))
+      (absent r)
+
+  unfoldable pub searchBy : Finding
+  searchBy zero b = exhausted b
+  searchBy (suc n) b = searchedBy (suc n) 0 Nowhere (command (0xF0 ∷ []) b)
+
+-- Remembering a conflict where 1 was taken.
+abbrev pub anyConflict : Bool → Bool → Bool → ℕ → Conflict → Conflict
+anyConflict first second taken k c = cond first c (cond second c (At k))
+
+abbrev pub notesOne : Finding
+notesOne = searchBy anyConflict continued
+
+-- One pass more after the last.
+abbrev pub goesOn : Conflict → Walk → Result → Result
+goesOn c w rest = before (w .id) rest
+
+abbrev pub startsAgain : Finding
+startsAgain = searchBy noted goesOn
+
+-- ---- bridges
+
+-- Clearing RST at a 1-Wire reset.
+abbrev pub clearsRst : Bridge → Bridge
+clearsRst s =
+    record {
+      dir = s .dir;
+      tsb = s .tsb;
+      sbr = s .sbr;
+      rst = false;
+      ppd = present (s .line);
+      configuration = s .configuration;
+      pointer = s .pointer;
+      readout = s .readout;
+      pending = Nothing;
+      line = resetAll (s .line);
+    }
+
+-- Writing 0 after levels 1,1.
+abbrev pub zeroAfterOnes : Bool → Bool → Bool → Bool
+zeroAfterOnes first second d = cond second false (cond first true d)
+
+abbrev pub tripletBy : (Bool → Bool → Bool → Bool) → Bool → Bridge → Bridge
+tripletBy choose d s =
+    let l1 = slot true (s .line) in
+    let l2 = slot true l1 in
+    let first = level true (s .line) in
+    let second = level true l1 in
+    let w = choose first second d in
+    finished w second first (s .ppd) (s .readout) (slot w l2) s
+
+-- ---- packets
+
+-- Sending CRC-16 uninverted.
+abbrev pub uninverted : Request → List ℕ
+uninverted q = bodyOf q ++ (crc16Of (bodyOf q) % 256) ∷ (crc16Of (bodyOf q) / 256) ∷ []
