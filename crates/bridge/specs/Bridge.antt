@@ -77,8 +77,8 @@ abbrev pub deviceReset : Bridge → Bridge
 deviceReset b = cleared (b .readout) (b .line)
 
 -- The state with another pointer, another pending command and another line.
-abbrev pub moved : Pointer → Pending → Line → Bridge → Bridge
-moved p q l b =
+abbrev pub changed : Pointer → Pending → Line → Bridge → Bridge
+changed p q l b =
     record {
       dir = b .dir;
       tsb = b .tsb;
@@ -97,7 +97,7 @@ unfoldable pub pointerOf : ℕ → Pointer
 pointerOf x = cond (eqb x 0xF0) Status (cond (eqb x 0xE1) ReadData Configuration)
 
 abbrev pub setPointer : ℕ → Bridge → Bridge
-setPointer x b = moved (pointerOf x) (b .pending) (b .line) b
+setPointer x b = changed (pointerOf x) (b .pending) (b .line) b
 
 -- D2h Write Configuration stores the low nibble, RST becomes 0, and the pointer goes to the configuration.
 abbrev pub configured : ℕ → Bridge → Bridge
@@ -117,15 +117,15 @@ configured x b =
 
 -- The five 1-Wire commands become pending, move the pointer to status and set 1WB at once.
 abbrev pub pended : Pending → Bridge → Bridge
-pended p b = moved Status p (b .line) b
+pended p b = changed Status p (b .line) b
 
 -- 87h and 78h use bit 7 of their parameter.
 abbrev pub topBit : ℕ → Bool
 topBit x = eqb (x / 128 % 2) 1
 
 -- The effect of a write that is accepted: its code c and its parameter x.
-unfoldable pub obeyed : ℕ → ℕ → Bridge → Bridge
-obeyed c x b =
+unfoldable pub accepted : ℕ → ℕ → Bridge → Bridge
+accepted c x b =
     cond (eqb c 0xF0) (deviceReset b)
     (cond (eqb c 0xE1) (setPointer x b)
     (cond (eqb c 0xD2) (configured x b)
@@ -168,7 +168,7 @@ writeNumber (c ∷ ps) b =
 
 -- A refused write leaves the state as it was.
 unfoldable pub afterWrite : List ℕ → Bridge → Bridge
-afterWrite x b = cond (eqb (writeNumber x b) 0) (obeyed (getD x 0 0) (getD x 1 0) b) b
+afterWrite x b = cond (eqb (writeNumber x b) 0) (accepted (getD x 0 0) (getD x 1 0) b) b
 
 -- ---- time passing
 
@@ -237,7 +237,7 @@ afterTime b = finishedOf (b .pending) b
 
 -- The state with another line.
 abbrev pub onLine : Line → Bridge → Bridge
-onLine l b = moved (b .pointer) (b .pending) l b
+onLine l b = changed (b .pointer) (b .pending) l b
 
 -- Fitting touches the line alone.
 unfoldable pub afterFitting : List ℕ → Bridge → Bridge

@@ -4,8 +4,8 @@ use crate::Pending;
 use crate::Pointer;
 use line::Line;
 ghost use mathlib.Core.Path.{_≡_};
-ghost use Rattle.bridge.specs.Bridge.{cleared as clearedOn, moved as movedTo, deviceReset, setPointer, configured as configuredTo};
-ghost use Rattle.bridge.specs.Bridge.{pended as pendedOf, topBit, pointerOf, obeyed as obeyedBy};
+ghost use Rattle.bridge.specs.Bridge.{cleared as clearedOn, changed as changedTo, deviceReset, setPointer, configured as configuredTo};
+ghost use Rattle.bridge.specs.Bridge.{pended as pendedOf, topBit, pointerOf, accepted as acceptedAs};
 
 fn top_bit(x: u8) -> bool
     ensures { λ r. ⌜ r ≡ topBit x ⌝ }
@@ -42,8 +42,8 @@ impl Bridge {
     }
 
     // Every other register stays.
-    pub(crate) fn moved(self, pointer: Pointer, pending: Pending, line: Line) -> Bridge
-        ensures { λ r. ⌜ r ≡ movedTo pointer pending line self ⌝ }
+    pub(crate) fn changed(self, pointer: Pointer, pending: Pending, line: Line) -> Bridge
+        ensures { λ r. ⌜ r ≡ changedTo pointer pending line self ⌝ }
     {
         Bridge {
             dir: self.dir,
@@ -72,7 +72,7 @@ impl Bridge {
     {
         let pending = self.pending;
         let line = self.line;
-        self.moved(pointed(x), pending, line)
+        self.changed(pointed(x), pending, line)
     }
 
     fn configured(mut self, x: u8) -> Bridge
@@ -82,19 +82,19 @@ impl Bridge {
         self.configuration = x % 16;
         let pending = self.pending;
         let line = self.line;
-        self.moved(Pointer::Configuration, pending, line)
+        self.changed(Pointer::Configuration, pending, line)
     }
 
     fn pended(self, pending: Pending) -> Bridge
         ensures { λ r. ⌜ r ≡ pendedOf pending self ⌝ }
     {
         let line = self.line;
-        self.moved(Pointer::Status, pending, line)
+        self.changed(Pointer::Status, pending, line)
     }
 
     // Every code that is not named here is that of the triplet: an unknown one has been refused.
-    pub(crate) fn obeyed(self, code: u8, x: u8) -> Bridge
-        ensures { λ r. ⌜ r ≡ obeyedBy code x self ⌝ }
+    pub(crate) fn accepted(self, code: u8, x: u8) -> Bridge
+        ensures { λ r. ⌜ r ≡ acceptedAs code x self ⌝ }
     {
         match code {
             Bridge::DEVICE_RESET => self.device_reset(),

@@ -1,6 +1,6 @@
 // The bridge: one DS2482-101 and the line behind it (document 01, "The bridge").
 //
-// A write is checked and then obeyed; a 1-Wire command becomes pending and has its effect when time passes; a read gives the register
+// A write is checked; one that is accepted has its effect; a 1-Wire command becomes pending and has its effect when time passes; a read gives the register
 // under the read pointer. Bad input is refused by number and changes nothing.
 //
 // Worked example: at power-on the status reads 18h. The write B4h (1-Wire Reset) is accepted, with one probe fitted the status then reads
@@ -113,7 +113,7 @@ impl Bridge {
     {
         let number = self.write_number(bytes);
         if number == DONE {
-            let bridge = self.obeyed(bytes::at(bytes, 0), bytes::at(bytes, 1));
+            let bridge = self.accepted(bytes::at(bytes, 0), bytes::at(bytes, 1));
             return Answer { number, bridge };
         }
         Answer {

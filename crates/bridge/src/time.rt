@@ -23,7 +23,7 @@ impl Bridge {
         ensures { λ r. ⌜ r ≡ finishedOn (self .dir) (self .tsb) (self .sbr) (self .ppd) (self .readout) line self ⌝ }
     {
         let pointer = self.pointer;
-        self.moved(pointer, Pending::Nothing, line)
+        self.changed(pointer, Pending::Nothing, line)
     }
 
     pub(crate) fn finished_reset(mut self) -> Bridge

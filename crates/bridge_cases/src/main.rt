@@ -1,10 +1,10 @@
-// The bridge's cases of document 01, "Tried on paper", and of what the paper leaves to be tried, run through the calls.
+// The bridge's cases of document 01, "Tried on paper", and of what it leaves to be tried, run through the calls.
 //
 // The cases are the lines of the file stdin. A line that begins with a dash is a title, and a case begins at power-on. In the other lines
 // pairs of hexadecimal digits are bytes, and a letter acts, with the bytes before it where it takes any:
 //
 //     w   they are written to the bridge
-//     i   the probe of that ID is fitted;  a, b, c   the one of the ID A, B or C of the paper
+//     i   the probe of that ID is fitted;  a, b, c   the one of the ID A, B or C there
 //     s   after a 1-Wire reset they go out on the line, each by Write Byte and with its time
 //     r   a read      t   time passes      p   the probes, as the fields of the line have them
 //     g   eight bytes come in from the line: Read Byte, its time, and what the read-data register holds

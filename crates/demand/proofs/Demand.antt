@@ -23,7 +23,7 @@ use Rattle.bridge.specs.Reached.{Bytes, Reached}
 use Rattle.bridge.specs.Reached.Reached.{fit}
 use Rattle.search.specs.declared.Answer.{Answer}
 use Rattle.search.specs.declared.Answer.the-variants.{Listed, Refused}
-use Rattle.search.specs.Search.{answerOf, answerNumber, valuesOf, bytesFrom, listOf, bufferOf, bridgeOf}
+use Rattle.search.specs.Search.{answerOf, answerNumber, answerValues, bytesFrom, listOf, bufferOf, bridgeOf}
 use Rattle.search.proofs.Bytes.{length-listOf}
 use Rattle.search.proofs.Call.{Answered, short, done}
 use Rattle.pass.specs.Passes.{search}
@@ -31,7 +31,7 @@ use Rattle.enumeration.proofs.Order.{in-order-unique}
 use Rattle.demand.specs.Demand.{Outcome, Search, Done, bytesListed, idsAt, afterResume, Resumed, Demand, Meets}
 use Rattle.demand.specs.Contract.{Called, Promised}
 use Rattle.demand.proofs.Reached.{reached-search}
-use Rattle.demand.proofs.Search.{order-of, order-is, listed-of, loud-of, number-of, complete-when, passes-used, longer-by, kept-ids, resume-kept, resume-last, at-most, fitting-one}
+use Rattle.demand.proofs.Search.{order-of, order-is, listed-of, never-silent, number-of, complete-when, passes-used, longer-by, kept-ids, resume-kept, resume-last, at-most, fitting-one}
 
 -- ---- bytes
 
@@ -82,11 +82,11 @@ promised s b d o c =
 module _ (s : Bridge) (r : Reached s) where
   -- with room the call is done
   settled : (b : ℕ) (d : List ℕ) → 8 * min b 64 ≤ length d → Answered b d s (Listed (length (search b s .ids)) (search b s .passes) (search b s .complete)) (search b s .bridge) (listOf (search b s .ids) ++ drop (length (listOf (search b s .ids))) d)
-  settled b d h = done b d s h (loud-of s r b)
+  settled b d h = done b d s h (never-silent s r b)
 
-  values-of : (b : ℕ) (d : List ℕ) → 8 * min b 64 ≤ length d → valuesOf (answerOf b d s) ≡ min b (length (idsAt s)) ∷ min b (max 1 (length (idsAt s))) ∷ digit (leb 1 b && leb (length (idsAt s)) b) ∷ []
+  values-of : (b : ℕ) (d : List ℕ) → 8 * min b 64 ≤ length d → answerValues (answerOf b d s) ≡ min b (length (idsAt s)) ∷ min b (max 1 (length (idsAt s))) ∷ digit (leb 1 b && leb (length (idsAt s)) b) ∷ []
   values-of b d h =
-      ap valuesOf
+      ap answerValues
       (settled b d h .answer
       ∙ ap₂ (λ (x y : ℕ). Listed x y (search b s .complete)) (number-of s r b) (passes-used s r b)
       ∙ ap (Listed (min b (length (idsAt s))) (min b (max 1 (length (idsAt s))))) (complete-when s r b))
@@ -173,7 +173,7 @@ exact s r =
       unique = λ l o. in-order-unique o (order-is s r);
       done = λ b d o g. ap (λ (x : Outcome). answerNumber (x .answer)) (g .0) ∙ ap answerNumber (settled s r b d (g .1) .answer);
       listed = λ b d o g. ap (λ (x : Outcome). x .list) (g .0) ∙ list-of s r b d (g .1);
-      values = λ b d o g. ap (λ (x : Outcome). valuesOf (x .answer)) (g .0) ∙ values-of s r b d (g .1);
+      values = λ b d o g. ap (λ (x : Outcome). answerValues (x .answer)) (g .0) ∙ values-of s r b d (g .1);
       refused = refused-of s r;
       bytes = listed-bytes;
       longer = longer-of s r;

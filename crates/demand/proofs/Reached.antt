@@ -29,7 +29,7 @@ use Rattle.pass.specs.declared.Conflict.{Conflict}
 use Rattle.pass.specs.declared.Conflict.the-variants.{Nowhere, At}
 use Rattle.pass.specs.declared.Walk.{Walk}
 use Rattle.pass.specs.Pass.{direction, tripletByte, tookTriplet, tripled, walked, passed}
-use Rattle.pass.specs.Passes.{Result, absent, broken, continued, searched, search}
+use Rattle.pass.specs.Passes.{Result, absent, silenced, continued, searched, search}
 use Rattle.enumeration.specs.Order.{Among, Distinct, Narrow}
 use Rattle.searching.proofs.Words.{Rest, lineOf, Holds}
 use Rattle.searching.proofs.Words.Rest.{free}
@@ -232,7 +232,7 @@ reached-searched (suc m) i c b r =
     end : Reached (w .bridge)
     end = reached-passed i c (reached-reset r)
 
-    go : (t s : Bool) (q : Conflict) (rest : Result) → Reached (rest .bridge) → Reached (cond t (cond s (broken (w .bridge)) (continued q w rest)) (absent reset) .bridge)
+    go : (t s : Bool) (q : Conflict) (rest : Result) → Reached (rest .bridge) → Reached (cond t (cond s (silenced (w .bridge)) (continued q w rest)) (absent reset) .bridge)
     go true true q rest f = end
     go true false Nowhere rest f = end
     go true false (At k) rest f = f

@@ -25,7 +25,7 @@ use Rattle.bridge.specs.declared.Bridge.{Bridge}
 use Rattle.bridge.specs.Bridge.{command, afterFitting}
 use Rattle.bridge.specs.Reached.{Bytes, Reached}
 use Rattle.search.specs.declared.Answer.{Answer}
-use Rattle.search.specs.Search.{answerNumber, valuesOf, listOf}
+use Rattle.search.specs.Search.{answerNumber, answerValues, listOf}
 use Rattle.enumeration.specs.Order.{Among, InOrder}
 
 pub record Outcome : Type 0 where
@@ -41,7 +41,7 @@ Done run s b d o = run s b d o × (8 * min b 64 ≤ length d)
 
 -- The number listed is the first of the answer's values; an ID has eight bytes.
 abbrev pub bytesListed : Outcome → List ℕ
-bytesListed o = take (8 * getD (valuesOf (o .answer)) 0 0) (o .list)
+bytesListed o = take (8 * getD (answerValues (o .answer)) 0 0) (o .list)
 
 abbrev pub idsAt : Bridge → List ℕ
 idsAt s = idsOf (s .line)
@@ -67,7 +67,7 @@ pub record Demand (run : Search) (s : Bridge) : Type 0 where
   pub listed : (b : ℕ) (d : List ℕ) (o : Outcome) → Done run s b d o → o .list ≡ listOf (take b order) ++ drop (8 * min b (length (idsAt s))) d
   -- The number listed is the smaller of b and n, the passes used are the smaller of b and the larger of 1 and n, and it says complete
   -- exactly when b is at least 1 and at least n.
-  pub values : (b : ℕ) (d : List ℕ) (o : Outcome) → Done run s b d o → valuesOf (o .answer) ≡ min b (length (idsAt s)) ∷ min b (max 1 (length (idsAt s))) ∷ digit (leb 1 b && leb (length (idsAt s)) b) ∷ []
+  pub values : (b : ℕ) (d : List ℕ) (o : Outcome) → Done run s b d o → answerValues (o .answer) ≡ min b (length (idsAt s)) ∷ min b (max 1 (length (idsAt s))) ∷ digit (leb 1 b && leb (length (idsAt s)) b) ∷ []
   -- Without that room it is refused with 9, and changes neither state nor buffer.
   pub refused : (b : ℕ) (d : List ℕ) (o : Outcome) → run s b d o → length d < 8 * min b 64 → (answerNumber (o .answer) ≡ 9) × (o .bridge ≡ s) × (o .list ≡ d)
   -- The eight bytes that are listed of an ID are those that were fitted.

@@ -15,7 +15,7 @@ use borrow.Author.Tests.{lt-ltb, le-ltb, eq-eqb, ne-eqb}
 use lib.Dec.{eqb}
 use lib.ListN.{length}
 use Rattle.identity.specs.Identity.{bitOf}
-use Rattle.enumeration.proofs.Tree.{child, leaves, taken, noted, ending, deeper, last, after, Sequences}
+use Rattle.enumeration.proofs.Tree.{child, leaves, branch, conflictAt, ending, deeper, last, after, Sequences}
 use Rattle.enumeration.proofs.Tree.Sequences.{ends, goes}
 use Rattle.enumeration.proofs.Bits.{child-lt, bit-child, mod-child}
 
@@ -38,19 +38,19 @@ module _ (h : ℕ → ℕ → Bool) where
   unfolding ending
   ending-mod d zero k a lt = mod-eq-of-lt lt
   ending-mod d (suc n) k a lt =
-      mod-child (taken h d k a) k a (ending h d n (suc k) (child (taken h d k a) k a)) lt
-      (ending-mod d n (suc k) (child (taken h d k a) k a) (child-lt (taken h d k a) k a lt))
+      mod-child (branch h d k a) k a (ending h d n (suc k) (child (branch h d k a) k a)) lt
+      (ending-mod d n (suc k) (child (branch h d k a) k a) (child-lt (branch h d k a) k a lt))
 
   -- ---- a node by the branch that is taken
 
-  module _ (w : Bool) (n k a : ℕ) (d : ℕ → Bool) (t : taken h d k a ≡ w) where
+  module _ (w : Bool) (n k a : ℕ) (d : ℕ → Bool) (t : branch h d k a ≡ w) where
     ending-next : ending h d (suc n) k a ≡ ending h d n (suc k) (child w k a)
     unfolding ending
     ending-next = ap (λ (v : Bool). ending h d n (suc k) (child v k a)) t
 
-    last-next : last h d (suc n) k a ≡ deeper (last h d n (suc k) (child w k a)) (noted h d k a)
+    last-next : last h d (suc n) k a ≡ deeper (last h d n (suc k) (child w k a)) (conflictAt h d k a)
     unfolding last
-    last-next = ap (λ (v : Bool). deeper (last h d n (suc k) (child v k a)) (noted h d k a)) t
+    last-next = ap (λ (v : Bool). deeper (last h d n (suc k) (child v k a)) (conflictAt h d k a)) t
 
   -- the ID at which a pass from a child ends has that child's bit
   ending-bit : (w : Bool) (n k a : ℕ) (d : ℕ → Bool) (x : ℕ) → a < 2 ^ k → ending h d n (suc k) (child w k a) ≡ x → bitOf x k ≡ w
@@ -61,7 +61,7 @@ module _ (h : ℕ → ℕ → Bool) where
   -- ---- a branch that every pass concerned takes, with no conflict
 
   abbrev Taken : Bool → ℕ → ℕ → (ℕ → Bool) → Type 0
-  Taken w k a d = (taken h d k a ≡ w) × (noted h d k a ≡ none)
+  Taken w k a d = (branch h d k a ≡ w) × (conflictAt h d k a ≡ none)
 
   lift : (w : Bool) (n k a : ℕ) → a < 2 ^ k → ((e : ℕ → Bool) → e k ≡ w → Taken w k a e) → {d : ℕ → Bool} {l : List ℕ} → Taken w k a d → Sequences h n (suc k) (child w k a) d l → Sequences h (suc n) k a d l
   unfolding deeper
@@ -76,7 +76,7 @@ module _ (h : ℕ → ℕ → Bool) where
 
   -- ---- both branches there
 
-  glue : (n k a : ℕ) → a < 2 ^ k → ((e : ℕ → Bool) → e k ≡ false → (taken h e k a ≡ false) × (noted h e k a ≡ some k)) → {d : ℕ → Bool} {l r : List ℕ} → d k ≡ false → Sequences h n (suc k) (child false k a) d l → ((e : ℕ → Bool) → e k ≡ true → ((j : ℕ) → k < j → e j ≡ false) → Sequences h (suc n) k a e r) → Sequences h (suc n) k a d (l ++ r)
+  glue : (n k a : ℕ) → a < 2 ^ k → ((e : ℕ → Bool) → e k ≡ false → (branch h e k a ≡ false) × (conflictAt h e k a ≡ some k)) → {d : ℕ → Bool} {l r : List ℕ} → d k ≡ false → Sequences h n (suc k) (child false k a) d l → ((e : ℕ → Bool) → e k ≡ true → ((j : ℕ) → k < j → e j ≡ false) → Sequences h (suc n) k a e r) → Sequences h (suc n) k a d (l ++ r)
   unfolding deeper
   glue n k a lt both {d} z (ends {x = x} e q) right =
       goes k (ending-next false n k a d (both d z .0) ∙ e)
@@ -92,8 +92,8 @@ module _ (h : ℕ → ℕ → Bool) where
   -- ---- what is there decides
 
   module _ (k a : ℕ) (x y : Bool) (ex : h (suc k) (child false k a) ≡ x) (ey : h (suc k) (child true k a) ≡ y) (d : ℕ → Bool) (v : Bool) (dv : d k ≡ v) where
-    at-node : (taken h d k a ≡ cond x (cond y v false) true) × (noted h d k a ≡ cond x (cond y (cond v none (some k)) none) none)
-    unfolding taken noted
+    at-node : (branch h d k a ≡ cond x (cond y v false) true) × (conflictAt h d k a ≡ cond x (cond y (cond v none (some k)) none) none)
+    unfolding branch conflictAt
     at-node = (simp (ex, ey, dv), simp (ex, ey, dv))
 
   -- ---- the leaves

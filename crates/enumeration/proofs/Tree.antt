@@ -5,8 +5,8 @@
 --   child w k a         the node one bit further, with the bit w
 --   leaves h n k a      the IDs at the node, by what h says is there: those with bit 0 first
 --   sorted ids          the leaves of the whole tree
---   taken h d k a       the bit that a pass with the directions d takes at the node
---   noted h d k a       the conflict that it notes there
+--   branch h d k a      the bit that a pass with the directions d takes at the node
+--   conflictAt h d k a  the conflict that it notes there
 --   ending h d n k a    the ID at which it ends
 --   last h d n k a      its last conflict from the node on
 --   after x c           the directions after a pass that ended at x with the last conflict c
@@ -37,17 +37,17 @@ unfoldable pub sorted : List ℕ → List ℕ
 sorted ids = leaves (has ids) 64 0 0
 
 -- With both branches there the direction decides; with one, that one.
-unfoldable pub taken : (ℕ → ℕ → Bool) → (ℕ → Bool) → ℕ → ℕ → Bool
-taken h d k a = cond (h (suc k) (child false k a)) (cond (h (suc k) (child true k a)) (d k) false) true
+unfoldable pub branch : (ℕ → ℕ → Bool) → (ℕ → Bool) → ℕ → ℕ → Bool
+branch h d k a = cond (h (suc k) (child false k a)) (cond (h (suc k) (child true k a)) (d k) false) true
 
 -- A conflict where 0 was taken.
-unfoldable pub noted : (ℕ → ℕ → Bool) → (ℕ → Bool) → ℕ → ℕ → Option ℕ
-noted h d k a =
+unfoldable pub conflictAt : (ℕ → ℕ → Bool) → (ℕ → Bool) → ℕ → ℕ → Option ℕ
+conflictAt h d k a =
     cond (h (suc k) (child false k a)) (cond (h (suc k) (child true k a)) (cond (d k) none (some k)) none) none
 
 unfoldable pub ending : (ℕ → ℕ → Bool) → (ℕ → Bool) → ℕ → ℕ → ℕ → ℕ
 ending h d zero k a = a
-ending h d (suc n) k a = ending h d n (suc k) (child (taken h d k a) k a)
+ending h d (suc n) k a = ending h d n (suc k) (child (branch h d k a) k a)
 
 -- the deeper of two conflicts, where there is one
 unfoldable pub deeper : Option ℕ → Option ℕ → Option ℕ
@@ -56,7 +56,7 @@ deeper (some x) c = some x
 
 unfoldable pub last : (ℕ → ℕ → Bool) → (ℕ → Bool) → ℕ → ℕ → ℕ → Option ℕ
 last h d zero k a = none
-last h d (suc n) k a = deeper (last h d n (suc k) (child (taken h d k a) k a)) (noted h d k a)
+last h d (suc n) k a = deeper (last h d n (suc k) (child (branch h d k a) k a)) (conflictAt h d k a)
 
 unfoldable pub after : ℕ → ℕ → ℕ → Bool
 after x c k = cond (ltb k c) (bitOf x k) (eqb k c)

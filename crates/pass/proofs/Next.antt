@@ -1,6 +1,6 @@
 -- One pass of the passes that are allowed, by how it ends.
 --   next i c b       the pass that `searched` takes next
---   searched-absent, searched-broken, searched-next    no presence, levels 1,1, or an ID and what comes after it
+--   searched-absent, searched-silenced, searched-next    no presence, levels 1,1, or an ID and what comes after it
 --   searched-last, searched-more                       that ID is the last one; or the next pass begins with a conflict
 use mathlib.Core.Path.{_≡_, ap, ap₂, _∙_}
 use mathlib.Core.Bool.{Bool, true, false, cond}
@@ -12,7 +12,7 @@ use Rattle.pass.specs.declared.Conflict.{Conflict}
 use Rattle.pass.specs.declared.Conflict.the-variants.{Nowhere, At}
 use Rattle.pass.specs.declared.Walk.{Walk}
 use Rattle.pass.specs.Pass.{passed}
-use Rattle.pass.specs.Passes.{Result, absent, broken, lastOne, before, continued, searched}
+use Rattle.pass.specs.Passes.{Result, absent, silenced, lastOne, before, continued, searched}
 
 -- the pass that `searched` takes next
 abbrev pub next : ℕ → Conflict → Bridge → Walk
@@ -22,7 +22,7 @@ next i c b = passed i c (command (0xB4 ∷ []) b)
 abbrev met : (ppd silent : Bool) (m i : ℕ) → Conflict → Bridge → Result
 met ppd silent m i c b =
     cond ppd
-    (cond silent (broken (next i c b .bridge))
+    (cond silent (silenced (next i c b .bridge))
     (continued (next i c b .conflict) (next i c b) (searched m (next i c b .id) (next i c b .conflict) (next i c b .bridge))))
     (absent (command (0xB4 ∷ []) b))
 
@@ -31,9 +31,9 @@ module _ (m i : ℕ) (c : Conflict) (b : Bridge) where
   unfolding searched
   searched-absent p = ap (λ (x : Bool). met x (next i c b .silent) m i c b) p
 
-  pub searched-broken : command (0xB4 ∷ []) b .ppd ≡ true → next i c b .silent ≡ true → searched (suc m) i c b ≡ broken (next i c b .bridge)
+  pub searched-silenced : command (0xB4 ∷ []) b .ppd ≡ true → next i c b .silent ≡ true → searched (suc m) i c b ≡ silenced (next i c b .bridge)
   unfolding searched
-  searched-broken p s = ap₂ (λ (x y : Bool). met x y m i c b) p s
+  searched-silenced p s = ap₂ (λ (x y : Bool). met x y m i c b) p s
 
   pub searched-next : (q : Conflict) → command (0xB4 ∷ []) b .ppd ≡ true → next i c b .silent ≡ false → next i c b .conflict ≡ q → searched (suc m) i c b ≡ continued q (next i c b) (searched m (next i c b .id) q (next i c b .bridge))
   unfolding searched

@@ -1,10 +1,10 @@
 -- The passes of a search (document 01, "The search").
 --   Result               what a search comes to
---   absent b, exhausted b, broken b    nothing is found: no presence; no pass left; levels 1,1
+--   absent s, exhausted s, silenced s    nothing is found: no presence; no pass left; levels 1,1
 --   lastOne w, before i r              an ID is found: the last one, by the walk w; the ID i, and then what r says
 --   continued c w r      what a walk w with the last conflict c comes to, if the passes after it come to r
---   searched n i c b     what at most n passes from the bridge b on come to
---   search n b           what a search that is allowed n passes comes to: IDs, passes used, completeness, the bridge afterwards
+--   searched b i c s     what at most b passes from the bridge s on come to
+--   search b s           what a search that is allowed b passes comes to: IDs, passes used, completeness, the bridge afterwards
 use Prim.Native.Nat.{ℕ, zero, suc}
 use mathlib.Core.Bool.{Bool, true, false, cond}
 use mathlib.Core.List.{List, [], _∷_}
@@ -26,15 +26,15 @@ pub record Result : Type 0 where
 
 -- A pass that finds no presence counts and completes the search.
 abbrev pub absent : Bridge → Result
-absent b = record { ids = []; passes = 1; complete = true; silent = false; bridge = b }
+absent s = record { ids = []; passes = 1; complete = true; silent = false; bridge = s }
 
 -- No pass is left.
 abbrev pub exhausted : Bridge → Result
-exhausted b = record { ids = []; passes = 0; complete = false; silent = false; bridge = b }
+exhausted s = record { ids = []; passes = 0; complete = false; silent = false; bridge = s }
 
 -- A pass that met levels 1,1 ends the search.
-abbrev pub broken : Bridge → Result
-broken b = record { ids = []; passes = 1; complete = false; silent = true; bridge = b }
+abbrev pub silenced : Bridge → Result
+silenced s = record { ids = []; passes = 1; complete = false; silent = true; bridge = s }
 
 -- A pass that ended at an ID: with no conflict the search is complete; with one, what the passes after it come to stands behind.
 abbrev pub lastOne : Walk → Result
@@ -49,17 +49,17 @@ unfoldable pub continued : Conflict → Walk → Result → Result
 continued Nowhere w rest = lastOne w
 continued (At c) w rest = before (w .id) rest
 
--- At most n passes, each a 1-Wire Reset and, where PPD is 1, Write Byte F0h and 64 triplets.
+-- At most b passes, each a 1-Wire Reset and, where PPD is 1, Write Byte F0h and 64 triplets.
 unfoldable pub searched : ℕ → ℕ → Conflict → Bridge → Result
-searched zero i c b = exhausted b
-searched (suc n) i c b =
-    let r = command (0xB4 ∷ []) b in
+searched zero i c s = exhausted s
+searched (suc b) i c s =
+    let r = command (0xB4 ∷ []) s in
     let w = passed i c r in
     cond (r .ppd)
-    (cond (w .silent) (broken (w .bridge)) (continued (w .conflict) w (searched n (w .id) (w .conflict) (w .bridge))))
+    (cond (w .silent) (silenced (w .bridge)) (continued (w .conflict) w (searched b (w .id) (w .conflict) (w .bridge))))
     (absent r)
 
 -- With no pass allowed nothing is issued; otherwise one Device Reset comes first.
 unfoldable pub search : ℕ → Bridge → Result
-search zero b = exhausted b
-search (suc n) b = searched (suc n) 0 Nowhere (command (0xF0 ∷ []) b)
+search zero s = exhausted s
+search (suc b) s = searched (suc b) 0 Nowhere (command (0xF0 ∷ []) s)

@@ -78,7 +78,7 @@ fn noted(first: bool, second: bool, taken: bool, k: u8, conflict: Conflict) -> C
 }
 
 // Both levels were 1, now or before.
-fn unheard(first: bool, second: bool, silent: bool) -> bool
+fn silent_after(first: bool, second: bool, silent: bool) -> bool
     ensures { λ r. ⌜ r ≡ cond first (cond second true silent) silent ⌝ }
 {
     if first {
@@ -111,7 +111,7 @@ fn triplets(previous: u64, before: Conflict, start: Bridge) -> Walk
         bridge = command(bridge, &bytes);
         id = with_bit(id, bridge.dir, k);
         conflict = noted(bridge.sbr, bridge.tsb, bridge.dir, k, conflict);
-        silent = unheard(bridge.sbr, bridge.tsb, silent);
+        silent = silent_after(bridge.sbr, bridge.tsb, silent);
         k += 1;
     }
     Walk {

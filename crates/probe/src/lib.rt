@@ -55,7 +55,7 @@ pub struct Probe {
 }
 
 // A code with one bit more: it goes in at the top and moves the earlier ones down.
-fn moved(code: u8, level: bool) -> u8
+fn code_with(code: u8, level: bool) -> u8
     ensures { λ r. ⌜ r ≡ code / 2 + 128 * digit level ⌝ }
 {
     if level { code / 2 + 128 } else { code / 2 }
@@ -156,7 +156,7 @@ impl Probe {
     fn took_code(self, count: u8, code: u8, level: bool) -> Probe
         ensures { λ r. ⌜ r ≡ tookCode count code level self ⌝ }
     {
-        let code = moved(code, level);
+        let code = code_with(code, level);
         if LAST_CODE_BIT <= count {
             self.obeyed(code)
         } else {

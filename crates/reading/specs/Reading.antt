@@ -4,8 +4,8 @@
 --   formOf p          the parts of a packet of one of the three forms, or 13
 --   isSealed p        the last two bytes are the checksum of those before
 --   readingOf p       what the reader gives: the parts, 13 or 14
---   numberOf r        the number of an answer of the reader: 0 for the parts
---   valuesOf r        its values: code, address, where the data starts, how long it is, R; a refusal has none
+--   readingNumber r        the number of an answer of the reader: 0 for the parts
+--   readingValues r        its values: code, address, where the data starts, how long it is, R; a refusal has none
 --   dataIn r p        the write data that an answer tells of, as that part of the packet p
 --   startIn r         where in the packet it begins
 --   placeFrom m n     the place in memory n bytes behind m
@@ -77,15 +77,15 @@ readingOf p = checked (isSealed p) (formOf p)
 
 -- ---- what an answer of the reader means
 
--- The paper's number of an answer.
-abbrev pub numberOf : Reading → ℕ
-numberOf (Parts c a b l r) = 0
-numberOf (Refused n) = n
+-- Document 01's number of an answer.
+abbrev pub readingNumber : Reading → ℕ
+readingNumber (Parts c a b l r) = 0
+readingNumber (Refused n) = n
 
 -- Its values. No data starts at 0 with length 0, and where there is no R it is given as 0; a refusal returns its number alone.
-abbrev pub valuesOf : Reading → List ℕ
-valuesOf (Parts c a b l r) = c ∷ a ∷ b ∷ l ∷ r ∷ []
-valuesOf (Refused n) = []
+abbrev pub readingValues : Reading → List ℕ
+readingValues (Parts c a b l r) = c ∷ a ∷ b ∷ l ∷ r ∷ []
+readingValues (Refused n) = []
 
 -- The write data lies in the packet where the parts say; for 87h and for a refused packet it is empty.
 unfoldable pub dataIn : Reading → List ℕ → List ℕ

@@ -8,7 +8,7 @@ ghost use mathlib.Core.Path.{_≡_};
 ghost use Prim.Native.Nat.{_-_};
 ghost use lib.ListN.{length};
 ghost use denote.Ref.{ptr};
-ghost use Rattle.reading.specs.Reading.{writeForm, readForm, writeReadForm, formOf, isSealed, readingOf, numberOf, dataIn, startIn, placeFrom};
+ghost use Rattle.reading.specs.Reading.{writeForm, readForm, writeReadForm, formOf, isSealed, readingOf, readingNumber, dataIn, startIn, placeFrom};
 
 const DONE: u8 = 0;
 
@@ -32,9 +32,9 @@ pub enum Reading {
 }
 
 impl Reading {
-    // The paper's number of the answer: 0 for the parts.
+    // Document 01's number of the answer: 0 for the parts.
     pub fn number(self) -> u8
-        ensures { λ r. ⌜ r ≡ numberOf self ⌝ }
+        ensures { λ r. ⌜ r ≡ readingNumber self ⌝ }
     {
         match self {
             Reading::Parts {

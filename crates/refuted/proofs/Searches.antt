@@ -17,28 +17,28 @@ use Rattle.identity.specs.Identity.{numberOf, bitOf, crcRight, familyOf, refusa
 use Rattle.probe.specs.declared.Condition.{Condition}
 use Rattle.probe.specs.declared.Condition.the-variants.{Deaf, Selected}
 use Rattle.probe.specs.declared.Probe.{Probe}
-use Rattle.probe.specs.Probe.{digit, sends, sendsIn, sendsSearching, took, tookIn, tookCode, tookSearching, obeyed as romObeyed}
+use Rattle.probe.specs.Probe.{digit, sends, sendsIn, sendsSearching, took, tookIn, tookCode, tookSearching, obeyed}
 use Rattle.line.specs.declared.Line.{Line}
 use Rattle.line.specs.Line.{all, any, bare, fitted, onFitted, level, slot, slots, present, resetAll, idOf, idsOf, isFitted, placeNumber, fitNumber, withProbe, afterFit}
 use Rattle.bridge.specs.declared.Bridge.{Bridge}
-use Rattle.bridge.specs.Bridge.{powerOn, afterFitting, command, bytesOf, takenWhileBusy, goodParameter, writeNumber, afterWrite, obeyed}
+use Rattle.bridge.specs.Bridge.{powerOn, afterFitting, command, bytesOf, takenWhileBusy, goodParameter, writeNumber, afterWrite, accepted}
 use Rattle.bridge.specs.Bridge.{finishedReset, finishedWrite, finishedTriplet, finishedOf, afterTime}
 use Rattle.bridge.specs.Reached.{Bytes, Reached}
 use Rattle.bridge.specs.Reached.Reached.{on, fit}
 use Rattle.pass.specs.Pass.{direction, noted, tookTriplet, tripled, walked, begun, passed}
-use Rattle.pass.specs.Passes.{Result, absent, broken, continued, searched, search}
+use Rattle.pass.specs.Passes.{Result, absent, silenced, continued, searched, search}
 use Rattle.pass.specs.declared.Conflict.{Conflict}
 use Rattle.pass.specs.declared.Conflict.the-variants.{Nowhere}
 use Rattle.pass.specs.declared.Walk.{Walk}
 use Rattle.search.specs.declared.Answer.the-variants.{Listed, Refused}
-use Rattle.search.specs.Search.{valuesOf, bytesFrom, listOf}
+use Rattle.search.specs.Search.{answerValues, bytesFrom, listOf}
 use Rattle.search.proofs.Call.{short, done}
 use Rattle.search.proofs.Bytes.{length-listOf, getD-listOf}
 use Rattle.enumeration.specs.Order.{Among, InOrder}
 use Rattle.paper.specs.Paper.{a, b, c, withOne}
 use Rattle.paper.proofs.Paper.{paper}
 use Rattle.demand.specs.Demand.{Outcome, Search, Done, bytesListed, idsAt, Resumed, Meets}
-use Rattle.demand.proofs.Search.{loud-of}
+use Rattle.demand.proofs.Search.{never-silent}
 use Rattle.demand.proofs.Demand.{outcome, outcome-path, Exactly, exact, fewer}
 use Rattle.refuted.specs.Versions.{Finding, outcomeWith, callOf, alwaysRefuses, fixedList, firstPassOnly, passesOf, passesAsListed, inserted, ascending, sortedAsNumbers, tripledBy, walkedBy, searchedBy, searchBy, notesOne, startsAgain}
 
@@ -62,7 +62,7 @@ same-outcome s r n d = go (decLe (8 * min n 64) (length d))
 
     go : Dec (8 * min n 64 ≤ length d) → outcomeWith search s n d ≡ outcome s n d
     go (yes h) =
-        let w = done n d s h (loud-of s r n) in
+        let w = done n d s h (never-silent s r n) in
         ap (λ (t : Bool). cond t refused listed) (le-ltb (length d) (8 * min n 64) h)
         ∙ sym (outcome-path (w .answer) (w .state) (w .buffer))
     go (no h) =
@@ -91,10 +91,10 @@ searched-by (suc n) i q s = go (walkedBy noted continued 64 0 i q start) (walked
     start : Walk
     start = begun (command (0xA5 ∷ 0xF0 ∷ []) r)
 
-    go : (w : Walk) → w ≡ walked 64 0 i q start → ((i : ℕ) (q : Conflict) (s : Bridge) → searchedBy noted continued n i q s ≡ searched n i q s) → cond (r .ppd) (cond (w .silent) (broken (w .bridge)) (continued (w .conflict) w (searchedBy noted continued n (w .id) (w .conflict) (w .bridge)))) (absent r) ≡ searched (suc n) i q s
+    go : (w : Walk) → w ≡ walked 64 0 i q start → ((i : ℕ) (q : Conflict) (s : Bridge) → searchedBy noted continued n i q s ≡ searched n i q s) → cond (r .ppd) (cond (w .silent) (silenced (w .bridge)) (continued (w .conflict) w (searchedBy noted continued n (w .id) (w .conflict) (w .bridge)))) (absent r) ≡ searched (suc n) i q s
     go w e rest =
-        ap (λ (t : Result). cond (r .ppd) (cond (w .silent) (broken (w .bridge)) (continued (w .conflict) w t)) (absent r)) (rest (w .id) (w .conflict) (w .bridge))
-        ∙ ap (λ (v : Walk). cond (r .ppd) (cond (v .silent) (broken (v .bridge)) (continued (v .conflict) v (searched n (v .id) (v .conflict) (v .bridge)))) (absent r)) e
+        ap (λ (t : Result). cond (r .ppd) (cond (w .silent) (silenced (w .bridge)) (continued (w .conflict) w t)) (absent r)) (rest (w .id) (w .conflict) (w .bridge))
+        ∙ ap (λ (v : Walk). cond (r .ppd) (cond (v .silent) (silenced (v .bridge)) (continued (v .conflict) v (searched n (v .id) (v .conflict) (v .bridge)))) (absent r)) e
 
 pub rules : (n : ℕ) (s : Bridge) → searchBy noted continued n s ≡ search n s
 unfolding searchBy search
@@ -169,7 +169,7 @@ module _ (run : Search) (meets : Meets run) (s : Bridge) (r : Reached s) (ids : 
       ∙ ap₂ (λ (l i : List ℕ). listOf (take n l) ++ drop (8 * min n (length i)) d)
       (sym (meets s r .unique order (subst (λ (i : List ℕ). InOrder i order) (sym known) is))) known
 
-  values-due : (n : ℕ) (d : List ℕ) (o : Outcome) → Done run s n d o → valuesOf (o .answer) ≡ min n (length ids) ∷ min n (max 1 (length ids)) ∷ digit (leb 1 n && leb (length ids) n) ∷ []
+  values-due : (n : ℕ) (d : List ℕ) (o : Outcome) → Done run s n d o → answerValues (o .answer) ≡ min n (length ids) ∷ min n (max 1 (length ids)) ∷ digit (leb 1 n && leb (length ids) n) ∷ []
   values-due n d o g =
       meets s r .values n d o g
       ∙ ap (λ (i : List ℕ). min n (length i) ∷ min n (max 1 (length i)) ∷ digit (leb 1 n && leb (length i) n) ∷ []) known
@@ -279,7 +279,7 @@ line-left meets =
 -- ---- a conflict noted where 1 was taken: after C and A, of two, it is not complete
 
 pub one-noted : Meets (callOf notesOne) → ⊥
-unfolding outcomeWith searchBy searchedBy walkedBy tripledBy tookTriplet continued command afterTime finishedOf afterWrite writeNumber bytesOf takenWhileBusy goodParameter obeyed romObeyed finishedReset finishedWrite finishedTriplet present resetAll level slot slots onFitted all sends sendsIn sendsSearching took tookIn tookCode tookSearching bitOf direction powerOn bare afterFitting afterFit fitNumber placeNumber isFitted idsOf fitted any withProbe refusalOf crcRight familyOf crc8Of crcFrom entered shifts shifted taps8 taps numberOf
+unfolding outcomeWith searchBy searchedBy walkedBy tripledBy tookTriplet continued command afterTime finishedOf afterWrite writeNumber bytesOf takenWhileBusy goodParameter accepted obeyed finishedReset finishedWrite finishedTriplet present resetAll level slot slots onFitted all sends sendsIn sendsSearching took tookIn tookCode tookSearching bitOf direction powerOn bare afterFitting afterFit fitNumber placeNumber isFitted idsOf fitted any withProbe refusalOf crcRight familyOf crc8Of crcFrom entered shifts shifted taps8 taps numberOf
 one-noted meets =
     let due = values-due (callOf notesOne) meets two two-reached (numberOf a ∷ numberOf c ∷ []) ids-two 2 (room 2) (outcomeWith notesOne two 2 (room 2)) (refl, lit≤ tt) in
     let e : _≡_ {A = ℕ} 0 1 = ap (λ (v : List ℕ). getD v 2 0) due in
@@ -288,7 +288,7 @@ one-noted meets =
 -- ---- a pass more after the last: A is listed twice
 
 pub list-again : Meets (callOf startsAgain) → ⊥
-unfolding outcomeWith searchBy searchedBy walkedBy tripledBy tookTriplet noted command afterTime finishedOf afterWrite writeNumber bytesOf takenWhileBusy goodParameter obeyed romObeyed finishedReset finishedWrite finishedTriplet present resetAll level slot slots onFitted all sends sendsIn sendsSearching took tookIn tookCode tookSearching bitOf direction powerOn bare afterFitting afterFit fitNumber placeNumber isFitted idsOf fitted any withProbe refusalOf crcRight familyOf crc8Of crcFrom entered shifts shifted taps8 taps numberOf
+unfolding outcomeWith searchBy searchedBy walkedBy tripledBy tookTriplet noted command afterTime finishedOf afterWrite writeNumber bytesOf takenWhileBusy goodParameter accepted obeyed finishedReset finishedWrite finishedTriplet present resetAll level slot slots onFitted all sends sendsIn sendsSearching took tookIn tookCode tookSearching bitOf direction powerOn bare afterFitting afterFit fitNumber placeNumber isFitted idsOf fitted any withProbe refusalOf crcRight familyOf crc8Of crcFrom entered shifts shifted taps8 taps numberOf
 list-again meets =
     let due = values-due (callOf startsAgain) meets (withOne a) (one-reached a refl refl) (numberOf a ∷ []) (ids-one a sound-a) 2 (room 2) (outcomeWith startsAgain (withOne a) 2 (room 2)) (refl, lit≤ tt) in
     let e : _≡_ {A = ℕ} 2 1 = ap (λ (v : List ℕ). getD v 0 0) due in

@@ -9,13 +9,13 @@ use lib.ListN.{length, getD}
 use Rattle.checksum.specs.Register.{crc16Of, crcFrom, entered, shifts, shifted, taps, taps16}
 use Rattle.line.specs.Line.{bare, fitted, all, level, slot, onFitted}
 use Rattle.bridge.specs.declared.Bridge.{Bridge}
-use Rattle.bridge.specs.Bridge.{powerOn, statusOf, busy, bytesOf, takenWhileBusy, goodParameter, writeNumber, afterWrite, obeyed, finishedReset, finishedTriplet, finishedOf, afterTime, chosen}
+use Rattle.bridge.specs.Bridge.{powerOn, statusOf, busy, bytesOf, takenWhileBusy, goodParameter, writeNumber, afterWrite, accepted, finishedReset, finishedTriplet, finishedOf, afterTime, chosen}
 use Rattle.bridge.specs.Reached.{Bytes, Reached}
 use Rattle.bridge.specs.Reached.Reached.{on, write}
 use Rattle.packet.specs.Request.{Request, read, bodyOf, invertedOf, sealOf, packetOf}
 use Rattle.reading.specs.declared.Reading.{Reading}
 use Rattle.reading.specs.declared.Reading.the-variants.{Refused}
-use Rattle.reading.specs.Reading.{readForm, formOf, isSealed, checked, readingOf, valuesOf}
+use Rattle.reading.specs.Reading.{readForm, formOf, isSealed, checked, readingOf, readingValues}
 use Rattle.demand.proofs.Reached.{bytes-one, bytes-two}
 use Rattle.refuted.specs.Versions.{clearsRst, zeroAfterOnes, tripletBy, uninverted}
 
@@ -29,7 +29,7 @@ step-refuses k h =
 
 -- 18h at power-on, 08h after a configuration was written
 pub status-fixed : (v : ℕ) → ((s : Bridge) → Reached s → statusOf s ≡ v) → ⊥
-unfolding statusOf afterWrite writeNumber bytesOf powerOn goodParameter obeyed
+unfolding statusOf afterWrite writeNumber bytesOf powerOn goodParameter accepted
 status-fixed v h =
     let on-power : 0x18 ≡ v = h powerOn on in
     let configured : 0x08 ≡ v = h (afterWrite (0xD2 ∷ 0xF0 ∷ []) powerOn) (write (0xD2 ∷ 0xF0 ∷ []) (bytes-two 0xD2 0xF0 (lit< tt) (lit< tt)) on) in
@@ -37,14 +37,14 @@ status-fixed v h =
 
 -- a configuration that is written clears RST
 pub write-lazy : ((x : List ℕ) → Bytes x → (s : Bridge) → Reached s → afterWrite x s ≡ s) → ⊥
-unfolding afterWrite writeNumber bytesOf powerOn goodParameter obeyed
+unfolding afterWrite writeNumber bytesOf powerOn goodParameter accepted
 write-lazy h =
     false≢true
     (ap (λ (s : Bridge). s .rst) (h (0xD2 ∷ 0xF0 ∷ []) (bytes-two 0xD2 0xF0 (lit< tt) (lit< tt)) powerOn on))
 
 -- a 1-Wire Reset is pending until time passes
 pub time-lazy : ((s : Bridge) → Reached s → afterTime s ≡ s) → ⊥
-unfolding afterTime finishedOf finishedReset afterWrite writeNumber bytesOf powerOn goodParameter obeyed
+unfolding afterTime finishedOf finishedReset afterWrite writeNumber bytesOf powerOn goodParameter accepted
 time-lazy h =
     false≢true
     (ap busy (h (afterWrite (0xB4 ∷ []) powerOn) (write (0xB4 ∷ []) (bytes-one 0xB4 (lit< tt)) on)))
@@ -67,7 +67,7 @@ triplet d s = refl
 pub reader-refuses : (k : ℕ) → ((p : List ℕ) → readingOf p ≡ Refused k) → ⊥
 unfolding readingOf checked formOf readForm isSealed invertedOf crc16Of crcFrom entered shifts shifted taps16 taps
 reader-refuses k h =
-    let e : _≡_ {A = ℕ} 5 0 = ap (λ (r : Reading). length (valuesOf r)) (h (0x87 ∷ 0x41 ∷ 0x02 ∷ 0xFE ∷ 0x47 ∷ [])) in
+    let e : _≡_ {A = ℕ} 5 0 = ap (λ (r : Reading). length (readingValues r)) (h (0x87 ∷ 0x41 ∷ 0x02 ∷ 0xFE ∷ 0x47 ∷ [])) in
     omega arith
 
 pub crc-plain : ((q : Request) → uninverted q ≡ packetOf q) → ⊥

@@ -30,7 +30,7 @@ use Rattle.pass.specs.declared.Conflict.{Conflict}
 use Rattle.pass.specs.declared.Conflict.the-variants.{Nowhere, At}
 use Rattle.pass.specs.declared.Walk.{Walk}
 use Rattle.pass.specs.Pass.{direction, tripletByte, noted, tookTriplet, begun}
-use Rattle.pass.specs.Passes.{Result, absent, exhausted, broken, before, continued, search}
+use Rattle.pass.specs.Passes.{Result, absent, exhausted, silenced, before, continued, search}
 use Rattle.search.specs.declared.Answer.the-variants.{Listed, Refused}
 use Rattle.search.specs.Search.{listOf}
 use Rattle.packet.specs.Request.{Request, bodyOf}
@@ -114,12 +114,12 @@ sortedAsNumbers b s =
 module _ (note : Bool → Bool → Bool → ℕ → Conflict → Conflict) (follow : Conflict → Walk → Result → Result) where
   unfoldable pub tripledBy : ℕ → Conflict → ℕ → Walk → Walk
   tripledBy i c k w =
-      let b = command (0x78 ∷ tripletByte (direction i c k) ∷ []) (w .bridge) in
-      let t = tookTriplet k b w in
+      let s = command (0x78 ∷ tripletByte (direction i c k) ∷ []) (w .bridge) in
+      let t = tookTriplet k s w in
       record {
-        bridge = b;
+        bridge = s;
         id = t .id;
-        conflict = note (b .sbr) (b .tsb) (b .dir) k (w .conflict);
+        conflict = note (s .sbr) (s .tsb) (s .dir) k (w .conflict);
         silent = t .silent;
       }
 
@@ -128,17 +128,17 @@ module _ (note : Bool → Bool → Bool → ℕ → Conflict → Conflict) (foll
   walkedBy (suc n) k i c w = walkedBy n (suc k) i c (tripledBy i c k w)
 
   unfoldable pub searchedBy : ℕ → ℕ → Conflict → Bridge → Result
-  searchedBy zero i c b = exhausted b
-  searchedBy (suc n) i c b =
-      let r = command (0xB4 ∷ []) b in
+  searchedBy zero i c s = exhausted s
+  searchedBy (suc b) i c s =
+      let r = command (0xB4 ∷ []) s in
       let w = walkedBy 64 0 i c (begun (command (0xA5 ∷ 0xF0 ∷ []) r)) in
       cond (r .ppd)
-      (cond (w .silent) (broken (w .bridge)) (follow (w .conflict) w (searchedBy n (w .id) (w .conflict) (w .bridge))))
+      (cond (w .silent) (silenced (w .bridge)) (follow (w .conflict) w (searchedBy b (w .id) (w .conflict) (w .bridge))))
       (absent r)
 
   unfoldable pub searchBy : Finding
-  searchBy zero b = exhausted b
-  searchBy (suc n) b = searchedBy (suc n) 0 Nowhere (command (0xF0 ∷ []) b)
+  searchBy zero s = exhausted s
+  searchBy (suc b) s = searchedBy (suc b) 0 Nowhere (command (0xF0 ∷ []) s)
 
 -- Remembering a conflict where 1 was taken.
 abbrev pub anyConflict : Bool → Bool → Bool → ℕ → Conflict → Conflict

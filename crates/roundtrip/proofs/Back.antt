@@ -3,7 +3,7 @@
 --   longest-is      and a write-read of 255 bytes has so many
 --   sealed-true     a body with its checksum behind it is sealed
 --   back            the reader's answer for the packet of a request within its limits
---   numbered-back, values-back    that answer in the paper's number and values
+--   numbered-back, values-back    that answer in document 01's number and values
 --   request-back    the request that this answer stands for in that packet is the very request, its data included
 --   back-formed     the reader's answer for what forming leaves at the front of a buffer
 --   back-refused    a request that is refused
@@ -21,7 +21,7 @@ use Rattle.reading.specs.declared.Reading.{Reading}
 use Rattle.reading.specs.declared.Reading.the-variants.{Refused}
 use Rattle.packet.specs.Request.{Request, write, read, writeRead, bodyOf, invertedOf, sealOf, packetOf}
 use Rattle.forming.specs.Forming.{goodAddress, goodCount, inLimits, formNumber, formed}
-use Rattle.reading.specs.Reading.{writeForm, readForm, writeReadForm, formOf, isSealed, checked, readingOf, numberOf, valuesOf, partsOf, requestIn}
+use Rattle.reading.specs.Reading.{writeForm, readForm, writeReadForm, formOf, isSealed, checked, readingOf, readingNumber, readingValues, partsOf, requestIn}
 use Rattle.forming.specs.Buffer.{over}
 use Rattle.forming.proofs.Limits.{count-of, good-of, room-of}
 use Rattle.forming.proofs.Buffer.{take-over}
@@ -120,17 +120,17 @@ unfolding readingOf packetOf
 back q g = ap₂ checked (sealed-true (bodyOf q)) (form-of q g) ∙ checked-parts q
 
 -- The answer in numbers: 0, and for each form its values.
-pub numbered-back : (q : Request) → inLimits q ≡ true → numberOf (readingOf (packetOf q)) ≡ 0
+pub numbered-back : (q : Request) → inLimits q ≡ true → readingNumber (readingOf (packetOf q)) ≡ 0
 unfolding partsOf
-numbered-back q g = ap numberOf (back q g) ∙ of-parts q
+numbered-back q g = ap readingNumber (back q g) ∙ of-parts q
   where
-    of-parts : (p : Request) → numberOf (partsOf p) ≡ 0
+    of-parts : (p : Request) → readingNumber (partsOf p) ≡ 0
     of-parts (write a s) = refl
     of-parts (read a r) = refl
     of-parts (writeRead a s r) = refl
 
-pub values-back : (q : Request) → inLimits q ≡ true → valuesOf (readingOf (packetOf q)) ≡ valuesOf (partsOf q)
-values-back q g = ap valuesOf (back q g)
+pub values-back : (q : Request) → inLimits q ≡ true → readingValues (readingOf (packetOf q)) ≡ readingValues (partsOf q)
+values-back q g = ap readingValues (back q g)
 
 -- the data lies in the packet where the parts say
 request-parts : (q : Request) → requestIn (partsOf q) (packetOf q) ≡ q

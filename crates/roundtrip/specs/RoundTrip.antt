@@ -12,7 +12,7 @@ use Rattle.reading.specs.declared.Reading.the-variants.{Parts, Refused}
 use Rattle.forming.specs.Buffer.{over}
 use Rattle.packet.specs.Request.{Request}
 use Rattle.forming.specs.Forming.{formNumber}
-use Rattle.reading.specs.Reading.{readingOf, numberOf, partsOf}
+use Rattle.reading.specs.Reading.{readingOf, readingNumber, partsOf}
 
 -- Reading a packet just formed gives the parts of the request that made it, the data as start and length; a refused request is refused
 -- with the number that forming gave. That these parts of that packet stand for the very request is the law `request-back`.
@@ -22,7 +22,7 @@ readBack q d = cond (eqb (formNumber q d) 0) (partsOf q) (Refused (formNumber q 
 -- A packet that is not accepted keeps its number; one that is needs a buffer as long as itself.
 unfoldable pub againFor : Reading → ℕ → ℕ → ℕ
 againFor (Parts c a b l r) wanted room = cond (leb wanted room) 0 12
-againFor (Refused n) wanted room = numberOf (Refused n)
+againFor (Refused n) wanted room = readingNumber (Refused n)
 
 unfoldable pub againNumber : List ℕ → List ℕ → ℕ
 againNumber p d = againFor (readingOf p) (length p) (length d)

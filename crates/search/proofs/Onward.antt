@@ -2,7 +2,7 @@
 -- on puts it behind what it has.
 --   onward p r       the result r of the passes to come, behind the IDs p
 --   onward-none      no ID is found yet
---   onward-f         one pass more, by how it ends: absent, broken, last, more; onward-over, no pass is left
+--   onward-f         one pass more, by how it ends: absent, silenced, last, more; onward-over, no pass is left
 --   stands           what is handed back stands for the whole
 use mathlib.Core.Path.{_≡_, sym, ap, _∙_}
 use mathlib.Core.Bool.{Bool, true, false}
@@ -19,7 +19,7 @@ use Rattle.pass.specs.declared.Conflict.the-variants.{Nowhere, At}
 use Rattle.pass.specs.declared.Walk.{Walk}
 use Rattle.pass.specs.Pass.{passed}
 use Rattle.pass.specs.Passes.{Result, before, continued, searched}
-use Rattle.pass.proofs.Next.{next, searched-absent, searched-broken, searched-next}
+use Rattle.pass.proofs.Next.{next, searched-absent, searched-silenced, searched-next}
 use Rattle.search.specs.declared.passes.Found.{Found}
 use Rattle.search.specs.Found.{resultOf}
 
@@ -78,10 +78,10 @@ module _ (allowed n i : ℕ) (c : Conflict) (b : Bridge) (p : List ℕ) (counted
       ends : next i c b ≡ w
       ends = ap (passed i c) (sym reset) ∙ sym walk
 
-      pub onward-broken : w .silent ≡ true → onward p (searched (allowed - n) i c b) ≡ record { ids = p; passes = n + 1; complete = false; silent = true; bridge = w .bridge }
-      onward-broken e =
+      pub onward-silenced : w .silent ≡ true → onward p (searched (allowed - n) i c b) ≡ record { ids = p; passes = n + 1; complete = false; silent = true; bridge = w .bridge }
+      onward-silenced e =
           one-more
-          ∙ ap (onward p) (searched-broken (allowed - (n + 1)) i c b there (ap (λ (v : Walk). v .silent) ends ∙ e))
+          ∙ ap (onward p) (searched-silenced (allowed - (n + 1)) i c b there (ap (λ (v : Walk). v .silent) ends ∙ e))
           ∙ result-path false true (append-nil p) (omega arith) (ap (λ (v : Walk). v .bridge) ends)
 
       went : (q : Conflict) → w .silent ≡ false → w .conflict ≡ q → onward p (searched (allowed - n) i c b) ≡ onward p (continued q w (searched (allowed - (n + 1)) (w .id) q (w .bridge)))
@@ -91,15 +91,15 @@ module _ (allowed n i : ℕ) (c : Conflict) (b : Bridge) (p : List ℕ) (counted
           (searched-next (allowed - (n + 1)) i c b q there (ap (λ (v : Walk). v .silent) ends ∙ s) (ap (λ (v : Walk). v .conflict) ends ∙ e)
           ∙ ap (λ (v : Walk). continued q v (searched (allowed - (n + 1)) (v .id) q (v .bridge))) ends)
 
-      module _ {q : List ℕ} (grown : q ≡ p ++ w .id ∷ []) (loud : w .silent ≡ false) where
+      module _ {q : List ℕ} (grown : q ≡ p ++ w .id ∷ []) (neverSilent : w .silent ≡ false) where
         pub onward-last : w .conflict ≡ Nowhere → onward p (searched (allowed - n) i c b) ≡ record { ids = q; passes = n + 1; complete = true; silent = false; bridge = w .bridge }
         unfolding continued
-        onward-last e = went Nowhere loud e ∙ result-path true false (sym grown) (omega arith) (λ j. w .bridge)
+        onward-last e = went Nowhere neverSilent e ∙ result-path true false (sym grown) (omega arith) (λ j. w .bridge)
 
         pub onward-more : (k : ℕ) → w .conflict ≡ At k → onward p (searched (allowed - n) i c b) ≡ onward q (searched (allowed - (n + 1)) (w .id) (At k) (w .bridge))
         unfolding continued
         onward-more k e =
-            went (At k) loud e
+            went (At k) neverSilent e
             ∙ onward-before p (w .id) (searched (allowed - (n + 1)) (w .id) (At k) (w .bridge))
             ∙ ap (λ (l : List ℕ). onward l (searched (allowed - (n + 1)) (w .id) (At k) (w .bridge))) (sym grown)
 

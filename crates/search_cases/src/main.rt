@@ -1,4 +1,4 @@
-// The search's cases of document 01, "Tried on paper", and of what the paper leaves to be tried, run through the calls. Each line of the
+// The search's cases of document 01, "Tried on paper", and of what it leaves to be tried, run through the calls. Each line of the
 // output is one search: what it answers, the status afterwards, and the IDs, family code first. Before a search every byte of its list
 // is EEh.
 mod lines;

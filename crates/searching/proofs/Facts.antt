@@ -49,7 +49,7 @@ none-allowed ids rest l b h =
       listed = refl;
       used = sym (zero-min (max 1 (length l)));
       whole = ap (λ (t : Bool). t && leb (length l) 0) (sym (lt-leb 1 0 (lit< tt)));
-      loud = refl;
+      neverSilent = refl;
       holds = h;
       closing = λ p x e. absurd (no-snoc p x e);
     }
@@ -62,7 +62,7 @@ absent-facts rest m b t =
       listed = refl;
       used = omega arith;
       whole = ap₂ _&&_ (sym (le-leb 1 (suc m) (omega arith))) (sym (leb·zero (suc m)));
-      loud = refl;
+      neverSilent = refl;
       holds = holds-command (0xB4 ∷ []) b (t .holds);
       closing = λ p x e. absurd (no-snoc p x e);
     }
@@ -84,7 +84,7 @@ outcome-facts ids rest l m b r pos o =
       listed = o .listed;
       used = omega (arith, o .used);
       whole = o .whole ∙ ap (λ (t : Bool). t && leb (length l) (suc m)) (sym (le-leb 1 (suc m) (omega arith)));
-      loud = o .loud;
+      neverSilent = o .neverSilent;
       holds = o .idle .holds;
       closing = λ p x e. (o .closing p x e, o .idle .idle);
     }

@@ -18,7 +18,7 @@ use Rattle.line.specs.Line.{idOf, onFitted, slot, level, resetAll, slots}
 use Rattle.bridge.specs.declared.Pending.{Pending}
 use Rattle.bridge.specs.declared.Pending.the-variants.{Nothing, Reset, SingleBit, WriteByte, ReadByte, Triplet}
 use Rattle.bridge.specs.declared.Bridge.{Bridge}
-use Rattle.bridge.specs.Bridge.{obeyed as obeyedBy, writeNumber, afterWrite, finishedOf, finishedReset, finishedBit, finishedWrite, finishedRead, finishedTriplet, afterTime, command}
+use Rattle.bridge.specs.Bridge.{accepted, writeNumber, afterWrite, finishedOf, finishedReset, finishedBit, finishedWrite, finishedRead, finishedTriplet, afterTime, command}
 use Rattle.searching.proofs.Words.{Rest, Holds}
 use Rattle.searching.proofs.Wire.{onFitted-lineOf}
 
@@ -98,8 +98,8 @@ cond-line : (l : Line) (t : Bool) (a b : Bridge) → a .line ≡ l → b .line �
 cond-line l true a b p q = p
 cond-line l false a b p q = q
 
-commanded-line : (c x : ℕ) (b : Bridge) → obeyedBy c x b .line ≡ b .line
-unfolding obeyedBy
+commanded-line : (c x : ℕ) (b : Bridge) → accepted c x b .line ≡ b .line
+unfolding accepted
 commanded-line c x b =
     cond-line (b .line) (eqb c 0xF0) _ _ refl
     (cond-line (b .line) (eqb c 0xE1) _ _ refl

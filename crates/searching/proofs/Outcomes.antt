@@ -66,13 +66,13 @@ module _ (ids : List ℕ) (rest : Rest) (there : has ids 0 0 ≡ true) where
     searched-ends : (m : ℕ) → last (has ids) (direction i c) 64 0 0 ≡ none → searched (suc m) i c b ≡ lastOne (next i c b)
     unfolding onto
     searched-ends m e =
-        searched-last m i c b presence (ended .loud)
+        searched-last m i c b presence (ended .neverSilent)
         (passed-on t i c there .1 ∙ ap (λ (p : Option ℕ). onto p Nowhere) e)
 
     searched-goes : (m x q : ℕ) → ending (has ids) (direction i c) 64 0 0 ≡ x → last (has ids) (direction i c) 64 0 0 ≡ some q → searched (suc m) i c b ≡ before x (searched m x (At q) (next i c b .bridge))
     unfolding onto
     searched-goes m x q e f =
-        searched-more m i c b q presence (ended .loud)
+        searched-more m i c b q presence (ended .neverSilent)
         (passed-on t i c there .1 ∙ ap (λ (p : Option ℕ). onto p Nowhere) f)
         ∙ ap (λ (y : ℕ). before y (searched m y (At q) (next i c b .bridge))) (ended .path ∙ e)
 
@@ -86,7 +86,7 @@ module _ (ids : List ℕ) (rest : Rest) (there : has ids 0 0 ≡ true) where
         listed = refl;
         used = sym (zero-min (suc (length l)));
         whole = sym (leb·suc-zero (length l));
-        loud = refl;
+        neverSilent = refl;
         idle = t;
         still = λ e. refl;
         closing = λ p y e. absurd (no-snoc p y e);
@@ -99,7 +99,7 @@ module _ (ids : List ℕ) (rest : Rest) (there : has ids 0 0 ≡ true) where
         listed = ap₂ {C = List ℕ} (λ (y : ℕ) (r : List ℕ). y ∷ r) (u .path) (sym (take-nil m));
         used = omega arith;
         whole = sym (le-leb 1 (suc m) (omega arith));
-        loud = refl;
+        neverSilent = refl;
         idle = under-idle u;
         still = λ f. absurd (cons≢nil f);
         closing =
@@ -114,7 +114,7 @@ module _ (ids : List ℕ) (rest : Rest) (there : has ids 0 0 ≡ true) where
         listed = ap {B = List ℕ} (λ (q : List ℕ). x ∷ q) (o .listed);
         used = ap suc (o .used) ∙ sym (suc-min-suc m (length l));
         whole = o .whole ∙ sym (leb·suc-suc (length l) m);
-        loud = o .loud;
+        neverSilent = o .neverSilent;
         idle = o .idle;
         still = λ f. absurd (cons≢nil f);
         closing = go;

@@ -25,7 +25,7 @@ use Rattle.pass.specs.declared.Conflict.{Conflict}
 use Rattle.pass.specs.declared.Conflict.the-variants.{Nowhere, At}
 use Rattle.pass.specs.declared.Walk.{Walk}
 use Rattle.pass.specs.Pass.{direction, noted, tripletByte, tookTriplet, tripled, walked, passed}
-use Rattle.enumeration.proofs.Tree.{has, child, taken, noted as notedAt, ending, deeper, last}
+use Rattle.enumeration.proofs.Tree.{has, child, branch, conflictAt, ending, deeper, last}
 use Rattle.enumeration.proofs.Bits.{child-lt, has-split}
 use Rattle.searching.proofs.Words.{Rest, lineOf, stand, standing, gathered, onto, Under, Idle}
 use Rattle.searching.proofs.Wire.{first-slot, second-slot, third-slot, first-level, second-level, resetAll-lineOf, slots-reset, obeyed-search, ids-standing}
@@ -42,18 +42,18 @@ command-direction b idle true = command-triplet b (free b idle) 128
 command-direction b idle false = command-triplet b (free b idle) 0
 
 -- the bit that the bridge writes is the bit that the enumeration takes
-chosen-taken : (h : ℕ → ℕ → Bool) (d : ℕ → Bool) (k a : ℕ) → chosen (not (h (suc k) (child false k a))) (not (h (suc k) (child true k a))) (d k) ≡ taken h d k a
-unfolding taken
-chosen-taken h d k a = go (h (suc k) (child false k a)) (h (suc k) (child true k a))
+chosen-branch : (h : ℕ → ℕ → Bool) (d : ℕ → Bool) (k a : ℕ) → chosen (not (h (suc k) (child false k a))) (not (h (suc k) (child true k a))) (d k) ≡ branch h d k a
+unfolding branch
+chosen-branch h d k a = go (h (suc k) (child false k a)) (h (suc k) (child true k a))
   where
     go : (z o : Bool) → cond (not z) true (cond (not o) false (d k)) ≡ cond z (cond o (d k) false) true
     go true true = refl
     go true false = refl
     go false o = refl
 
-noted-noted : (h : ℕ → ℕ → Bool) (d : ℕ → Bool) (k a : ℕ) (c : Conflict) → noted (not (h (suc k) (child false k a))) (not (h (suc k) (child true k a))) (taken h d k a) k c ≡ onto (notedAt h d k a) c
-unfolding noted notedAt taken onto
-noted-noted h d k a c = go (h (suc k) (child false k a)) (h (suc k) (child true k a)) (d k)
+noted-conflictAt : (h : ℕ → ℕ → Bool) (d : ℕ → Bool) (k a : ℕ) (c : Conflict) → noted (not (h (suc k) (child false k a))) (not (h (suc k) (child true k a))) (branch h d k a) k c ≡ onto (conflictAt h d k a) c
+unfolding noted conflictAt branch onto
+noted-conflictAt h d k a c = go (h (suc k) (child false k a)) (h (suc k) (child true k a)) (d k)
   where
     go : (z o e : Bool) → cond (not z) c (cond (not o) c (cond (cond z (cond o e false) true) c (At k))) ≡ onto (cond z (cond o (cond e none (some k)) none) none) c
     go true true true = refl
@@ -77,16 +77,16 @@ module _ (ids : List ℕ) (rest : Rest) (d : ℕ → Bool) (k a : ℕ) (within :
   unfolding after finishedTriplet
   triplet-tsb = ap (level true) first-line ∙ second-level k a below ids rest
 
-  triplet-dir : after .dir ≡ taken (has ids) d k a
+  triplet-dir : after .dir ≡ branch (has ids) d k a
   unfolding after finishedTriplet
-  triplet-dir = ap₂ (λ (x y : Bool). chosen x y (d k)) triplet-sbr triplet-tsb ∙ chosen-taken (has ids) d k a
+  triplet-dir = ap₂ (λ (x y : Bool). chosen x y (d k)) triplet-sbr triplet-tsb ∙ chosen-branch (has ids) d k a
 
-  triplet-line : after .line ≡ lineOf (map (standing (suc k) (child (taken (has ids) d k a) k a)) ids) rest
+  triplet-line : after .line ≡ lineOf (map (standing (suc k) (child (branch (has ids) d k a) k a)) ids) rest
   unfolding after finishedTriplet
   triplet-line =
       ap₂ (λ (w : Bool) l. slot w (slot true l)) triplet-dir first-line
-      ∙ ap (slot (taken (has ids) d k a)) (second-slot k a below ids rest)
-      ∙ third-slot k a below ids rest (taken (has ids) d k a)
+      ∙ ap (slot (branch (has ids) d k a)) (second-slot k a below ids rest)
+      ∙ third-slot k a below ids rest (branch (has ids) d k a)
 
 -- ---- a triplet of a pass
 
@@ -101,15 +101,15 @@ id-child true k a = ap (λ (m : ℕ). a + m) (one-mul (2 ^ k))
 id-child false k a = ap (λ (m : ℕ). a + m) (zero-mul (2 ^ k)) ∙ add-zero a
 
 -- with an ID below the node one of the levels is 0
-loud-on : (z o s : Bool) → cond z true o ≡ true → s ≡ false → cond (not z) (cond (not o) true s) s ≡ false
-loud-on true o s h e = e
-loud-on false true s h e = e
-loud-on false false s h e = absurd (true≢false (sym h))
+never-silent-on : (z o s : Bool) → cond z true o ≡ true → s ≡ false → cond (not z) (cond (not o) true s) s ≡ false
+never-silent-on true o s h e = e
+never-silent-on false true s h e = e
+never-silent-on false false s h e = absurd (true≢false (sym h))
 
 -- the branch taken is there
-has-taken : (ids : List ℕ) (d : ℕ → Bool) (k a : ℕ) → a < 2 ^ k → has ids k a ≡ true → has ids (suc k) (child (taken (has ids) d k a) k a) ≡ true
-unfolding taken
-has-taken ids d k a below there =
+has-branch : (ids : List ℕ) (d : ℕ → Bool) (k a : ℕ) → a < 2 ^ k → has ids k a ≡ true → has ids (suc k) (child (branch (has ids) d k a) k a) ≡ true
+unfolding branch
+has-branch ids d k a below there =
     go (has ids (suc k) (child false k a)) refl (has ids (suc k) (child true k a)) refl (d k) (sym (has-split ids k a below) ∙ there)
   where
     go : (z : Bool) → has ids (suc k) (child false k a) ≡ z → (o : Bool) → has ids (suc k) (child true k a) ≡ o → (e : Bool) → cond z true o ≡ true → has ids (suc k) (child (cond z (cond o e false) true) k a) ≡ true
@@ -129,7 +129,7 @@ module _ (ids : List ℕ) (rest : Rest) (i : ℕ) (c : Conflict) where
     unfolding tripled shown after
     tripled-shown = ap (λ (b : Bridge). tookTriplet k b w) (command-direction (w .bridge) (u .idle) (direction i c k))
 
-    tripled-under : Under ids rest (suc k) (child (taken (has ids) (direction i c) k a) k a) (tookTriplet k shown w)
+    tripled-under : Under ids rest (suc k) (child (branch (has ids) (direction i c) k a) k a) (tookTriplet k shown w)
     unfolding tookTriplet shown after finishedTriplet
     tripled-under =
         record {
@@ -138,16 +138,16 @@ module _ (ids : List ℕ) (rest : Rest) (i : ℕ) (c : Conflict) where
           path =
               ap₂ (λ (x : ℕ) (t : Bool). x + digit t * 2 ^ k) (u .path)
               (triplet-dir ids rest (direction i c) k a within below (w .bridge) (u .line))
-              ∙ id-child (taken (has ids) (direction i c) k a) k a;
-          loud =
+              ∙ id-child (branch (has ids) (direction i c) k a) k a;
+          neverSilent =
               ap₂ (λ (x y : Bool). cond x (cond y true (w .silent)) (w .silent))
               (triplet-sbr ids rest (direction i c) k a within below (w .bridge) (u .line))
               (triplet-tsb ids rest (direction i c) k a within below (w .bridge) (u .line))
-              ∙ loud-on (has ids (suc k) (child false k a)) (has ids (suc k) (child true k a)) (w .silent)
-              (sym (has-split ids k a below) ∙ there) (u .loud);
+              ∙ never-silent-on (has ids (suc k) (child false k a)) (has ids (suc k) (child true k a)) (w .silent)
+              (sym (has-split ids k a below) ∙ there) (u .neverSilent);
         }
 
-    tripled-conflict : tookTriplet k shown w .conflict ≡ onto (notedAt (has ids) (direction i c) k a) (w .conflict)
+    tripled-conflict : tookTriplet k shown w .conflict ≡ onto (conflictAt (has ids) (direction i c) k a) (w .conflict)
     unfolding tookTriplet shown
     tripled-conflict =
         ap₂ (λ (x y : Bool). noted x y (shown .dir) k (w .conflict))
@@ -156,12 +156,12 @@ module _ (ids : List ℕ) (rest : Rest) (i : ℕ) (c : Conflict) where
         ∙ ap
         (λ (t : Bool). noted (not (has ids (suc k) (child false k a))) (not (has ids (suc k) (child true k a))) t k (w .conflict))
         (triplet-dir ids rest (direction i c) k a within below (w .bridge) (u .line))
-        ∙ noted-noted (has ids) (direction i c) k a (w .conflict)
+        ∙ noted-conflictAt (has ids) (direction i c) k a (w .conflict)
 
     -- where the triplet leaves the pass
-    tripled-on : Under ids rest (suc k) (child (taken (has ids) (direction i c) k a) k a) (tripled i c k w) × (tripled i c k w .conflict ≡ onto (notedAt (has ids) (direction i c) k a) (w .conflict))
+    tripled-on : Under ids rest (suc k) (child (branch (has ids) (direction i c) k a) k a) (tripled i c k w) × (tripled i c k w .conflict ≡ onto (conflictAt (has ids) (direction i c) k a) (w .conflict))
     tripled-on = (
-      subst⁻¹ (Under ids rest (suc k) (child (taken (has ids) (direction i c) k a) k a)) tripled-shown tripled-under,
+      subst⁻¹ (Under ids rest (suc k) (child (branch (has ids) (direction i c) k a) k a)) tripled-shown tripled-under,
       ap (λ (v : Walk). v .conflict) tripled-shown ∙ tripled-conflict,
     )
 
@@ -176,14 +176,14 @@ module _ (ids : List ℕ) (rest : Rest) (i : ℕ) (c : Conflict) where
   walked-on (suc n) k a e below there w u =
       let now = tripled-on k a (omega arith) below there w u in
       let then =
-      walked-on n (suc k) (child (taken (has ids) (direction i c) k a) k a) (omega arith)
-      (child-lt (taken (has ids) (direction i c) k a) k a below) (has-taken ids (direction i c) k a below there)
+      walked-on n (suc k) (child (branch (has ids) (direction i c) k a) k a) (omega arith)
+      (child-lt (branch (has ids) (direction i c) k a) k a below) (has-branch ids (direction i c) k a below there)
       (tripled i c k w) (now .0) in (
         then .0,
         then .1
-            ∙ ap (onto (last (has ids) (direction i c) n (suc k) (child (taken (has ids) (direction i c) k a) k a))) (now .1)
-            ∙ onto-deeper (last (has ids) (direction i c) n (suc k) (child (taken (has ids) (direction i c) k a) k a))
-            (notedAt (has ids) (direction i c) k a) (w .conflict),
+            ∙ ap (onto (last (has ids) (direction i c) n (suc k) (child (branch (has ids) (direction i c) k a) k a))) (now .1)
+            ∙ onto-deeper (last (has ids) (direction i c) n (suc k) (child (branch (has ids) (direction i c) k a) k a))
+            (conflictAt (has ids) (direction i c) k a) (w .conflict),
       )
 
 -- ---- a 1-Wire Reset, and a ROM command
@@ -230,7 +230,7 @@ module _ {ids : List ℕ} {rest : Rest} {b : Bridge} (t : Idle ids rest b) where
   passed-on i c there =
       walked-on ids rest i c 64 0 0 refl (lit< tt) there
       (record { bridge = command (0xA5 ∷ 0xF0 ∷ []) (command (0xB4 ∷ []) b); id = 0; conflict = Nowhere; silent = false })
-      (record { line = searching-line; idle = commanded-idle b (t .holds .probes) rest (t .holds .line) (t .idle) 0xF0; path = refl; loud = refl })
+      (record { line = searching-line; idle = commanded-idle b (t .holds .probes) rest (t .holds .line) (t .idle) 0xF0; path = refl; neverSilent = refl })
 
 -- the line after a pass has the same IDs
 pub under-idle : {ids : List ℕ} {rest : Rest} {k a : ℕ} {w : Walk} → Under ids rest k a w → Idle ids rest (w .bridge)

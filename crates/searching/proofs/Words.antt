@@ -73,7 +73,7 @@ pub record Under (ids : List ℕ) (rest : Rest) (k a : ℕ) (w : Walk) : Type 0 
   pub line : w .bridge .line ≡ lineOf (map (standing k a) ids) rest
   pub idle : w .bridge .pending ≡ Nothing
   pub path : w .id ≡ a
-  pub loud : w .silent ≡ false
+  pub neverSilent : w .silent ≡ false
 
 pub record Holds (ids : List ℕ) (rest : Rest) (l : Line) : Type 0 where
   pub probes : List Probe
@@ -90,7 +90,7 @@ pub record Outcome (ids : List ℕ) (rest : Rest) (l : List ℕ) (m : ℕ) (b : 
   pub listed : r .ids ≡ take m l
   pub used : r .passes ≡ min m (length l)
   pub whole : r .complete ≡ leb (length l) m
-  pub loud : r .silent ≡ false
+  pub neverSilent : r .silent ≡ false
   pub idle : Idle ids rest (r .bridge)
   pub still : r .ids ≡ [] → r .bridge ≡ b
   pub closing : (p : List ℕ) (x : ℕ) → r .ids ≡ p ++ x ∷ [] → r .bridge .line ≡ lineOf (map (standing 64 x) ids) rest
@@ -99,6 +99,6 @@ pub record Facts (ids : List ℕ) (rest : Rest) (l : List ℕ) (m : ℕ) (r : Re
   pub listed : r .ids ≡ take m l
   pub used : r .passes ≡ min m (max 1 (length l))
   pub whole : r .complete ≡ (leb 1 m && leb (length l) m)
-  pub loud : r .silent ≡ false
+  pub neverSilent : r .silent ≡ false
   pub holds : Holds ids rest (r .bridge .line)
   pub closing : (p : List ℕ) (x : ℕ) → r .ids ≡ p ++ x ∷ [] → (r .bridge .line ≡ lineOf (map (standing 64 x) ids) rest) × (r .bridge .pending ≡ Nothing)

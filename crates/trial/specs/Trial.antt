@@ -4,9 +4,9 @@ use Prim.Native.Nat.{ℕ}
 use mathlib.Core.List.{List}
 use Rattle.reading.specs.declared.Reading.{Reading}
 use Rattle.reading.specs.declared.Reading.the-variants.{Parts, Refused}
-use Rattle.reading.specs.Reading.{valuesOf}
+use Rattle.reading.specs.Reading.{readingValues}
 
 -- A refused call changes nothing that was lent.
 abbrev pub numbersOf : Reading → List ℕ → List ℕ
-numbersOf (Parts c a b l r) d = valuesOf (Parts c a b l r)
+numbersOf (Parts c a b l r) d = readingValues (Parts c a b l r)
 numbersOf (Refused n) d = d

@@ -42,8 +42,8 @@ with-bit-requires c κs = search needs
 noted-requires : tie.Need-noted-requires Inv-loop μ-loop
 noted-requires c κs = search needs
 
-unheard-requires : tie.Need-unheard-requires Inv-loop μ-loop
-unheard-requires c κs = search needs
+silent-after-requires : tie.Need-silent-after-requires Inv-loop μ-loop
+silent-after-requires c κs = search needs
 
 add-k : tie.Need-add-k Inv-loop μ-loop
 add-k c = search needs
@@ -65,7 +65,7 @@ loop-again c =
           (tripled-by (s .before .args .previous) (s .before .args .before) (l .k) w
           (b .command .ensures
           ∙ ap (λ (x : ℕ). command (0x78 ∷ x ∷ []) (l .bridge)) (t .triplet-byte .ensures ∙ ap tripletByte (t .before .direction .ensures)))
-          (c .before .before .with-bit .ensures .0) (c .before .noted .ensures) (c .unheard .ensures)),
+          (c .before .before .with-bit .ensures .0) (c .before .noted .ensures) (c .silent-after .ensures)),
     )
 
 returns : tie.Need-returns Inv-loop μ-loop
@@ -86,7 +86,7 @@ triplets-spec =
     command-requires
     with-bit-requires
     noted-requires
-    unheard-requires
+    silent-after-requires
     add-k
     loop-less
     loop-again

@@ -8,7 +8,7 @@ use Rattle.reading.specs.declared.Reading.{Reading}
 use Rattle.reading.specs.declared.Reading.the-variants.{Parts}
 use Rattle.packet.specs.Request.{Request, write, read, writeRead}
 use Rattle.forming.specs.Forming.{formNumber, formed}
-use Rattle.reading.specs.Reading.{readingOf, numberOf, dataIn, requestIn}
+use Rattle.reading.specs.Reading.{readingOf, readingNumber, dataIn, requestIn}
 use Rattle.roundtrip.specs.RoundTrip.{againNumber, formedAgain}
 use Rattle.roundtrip.proofs.Again.{again-formed, again-refused, request-write, request-read, request-writeRead}
 use borrow.Author.Needs.{needs}
@@ -34,7 +34,7 @@ returns c =
     let a = r .before .before .before .args in
     let is = sym (r .read .ensures) ∙ e .enum-told .given .1 in
     let g = again-refused (a .packet .now) (a .buffer .now) is in
-    (c .number .ensures ∙ ap numberOf (e .enum-told .given .1) ∙ g .0, g .1)
+    (c .number .ensures ∙ ap readingNumber (e .enum-told .given .1) ∙ g .0, g .1)
 
 data-of-requires : tie.Need-data-of-requires
 data-of-requires c κs = search needs

@@ -1,7 +1,7 @@
 -- `trial::trial_read` meets its contract: each way of the reading says which numbers the parts are, and a refusal that they are those at entry.
 use mathlib.Core.Path.{sym, ap, _∙_}
 use Rattle.reading.specs.declared.Reading.{Reading}
-use Rattle.reading.specs.Reading.{numberOf}
+use Rattle.reading.specs.Reading.{readingNumber}
 use Rattle.trial.specs.Trial.{numbersOf}
 use borrow.Author.Needs.{needs}
 use Rattle.trial.proofs.trial_read.Statement.{statement}
@@ -25,7 +25,7 @@ returns c =
     let r = e .before .before in
     let q = r .read .ensures in
     let d = r .before .before .args .parts .now in
-    (c .number .ensures ∙ ap numberOf q, sym (ap (λ (x : Reading). numbersOf x d) (sym q ∙ e .enum-told .given .1)))
+    (c .number .ensures ∙ ap readingNumber q, sym (ap (λ (x : Reading). numbersOf x d) (sym q ∙ e .enum-told .given .1)))
 
 cast-t9 : tie.Need-cast-t9
 cast-t9 c = search needs
@@ -42,7 +42,7 @@ returns-2 c =
     let r = e .before .before in
     let q = sym (r .read .ensures) ∙ e .reading .given .1 in
     let d = r .before .before .args .parts .now in
-    (sym (ap numberOf q), sym (ap (λ (x : Reading). numbersOf x d) q))
+    (sym (ap readingNumber q), sym (ap (λ (x : Reading). numbersOf x d) q))
 
 pub trial-read-spec : {M : Type 1} → statement M
 trial-read-spec =

@@ -1,7 +1,7 @@
--- `Bridge::write` meets its contract: the number decides whether the write is obeyed.
+-- `Bridge::write` meets its contract: the number decides whether the write is accepted.
 use mathlib.Core.Path.{sym, ap₂, _∙_}
 use Prim.Native.Nat.{ℕ}
-use Rattle.bridge.specs.Bridge.{obeyed}
+use Rattle.bridge.specs.Bridge.{accepted}
 use Rattle.bridge.proofs.Writes.{afterWrite-done, afterWrite-refused}
 use borrow.Author.Needs.{needs}
 use Rattle.bridge.proofs.Bridge.write.Statement.{statement}
@@ -16,15 +16,15 @@ at-requires c κs = search needs
 at-requires-2 : tie.Need-at-requires-2
 at-requires-2 c κs = search needs
 
-obeyed-requires : tie.Need-obeyed-requires
-obeyed-requires c κs = search needs
+accepted-requires : tie.Need-accepted-requires
+accepted-requires c κs = search needs
 
 returns : tie.Need-returns
 returns c =
     let n = c .before .before .before in (
       n .before .write-number .ensures,
-      c .obeyed .ensures
-          ∙ ap₂ (λ (k x : ℕ). obeyed k x (n .before .before .before .args .self)) (c .before .before .at .ensures) (c .before .at2 .ensures)
+      c .accepted .ensures
+          ∙ ap₂ (λ (k x : ℕ). accepted k x (n .before .before .before .args .self)) (c .before .before .at .ensures) (c .before .at2 .ensures)
           ∙ sym (afterWrite-done _ _ (sym (n .before .write-number .ensures) ∙ n .if1 .taken)),
     )
 
@@ -41,6 +41,6 @@ write-spec =
     write-number-requires
     at-requires
     at-requires-2
-    obeyed-requires
+    accepted-requires
     returns
     returns-2)

@@ -9,8 +9,8 @@ use Rattle.probe.specs.declared.Condition.the-variants.{Taking}
 use Rattle.probe.proofs.Probe.took_code.Statement.{statement}
 use Rattle.probe.proofs.Probe.took_code.Tie as tie
 
-moved-requires : tie.Need-moved-requires
-moved-requires c κs = search needs
+code-with-requires : tie.Need-code-with-requires
+code-with-requires c κs = search needs
 
 obeyed-requires : tie.Need-obeyed-requires
 obeyed-requires c κs = search needs
@@ -26,16 +26,16 @@ unfolding tookCode
 returns c =
     let a = c .before .before .before .args in
     simp (le-leb 7 (a .count) (omega arith))
-    (c .obeyed .ensures ∙ ap (λ (x : ℕ). obeyed x (a .self)) (c .before .before .moved .ensures))
+    (c .obeyed .ensures ∙ ap (λ (x : ℕ). obeyed x (a .self)) (c .before .before .code-with .ensures))
 
 returns-2 : tie.Need-returns-2
 unfolding tookCode
 returns-2 c =
     let a = c .before .before .before .args in
     simp (lt-leb 7 (a .count) (omega arith))
-    (c .in-condition .ensures ∙ ap (λ (x : ℕ). inCondition (a .self) (Taking (a .count + 1) x)) (c .before .before .moved .ensures))
+    (c .in-condition .ensures ∙ ap (λ (x : ℕ). inCondition (a .self) (Taking (a .count + 1) x)) (c .before .before .code-with .ensures))
 
 pub took-code-spec : {M : Type 1} → statement M
 took-code-spec =
     tie.close
-    (tie.spec moved-requires obeyed-requires add-t8 in-condition-requires returns returns-2)
+    (tie.spec code-with-requires obeyed-requires add-t8 in-condition-requires returns returns-2)

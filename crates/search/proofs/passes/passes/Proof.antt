@@ -9,7 +9,7 @@ use lib.Seq.{length-take-le, take-suc-set}
 use borrow.Author.Tests.{not-true, not-false}
 use Rattle.pass.specs.declared.Conflict.the-variants.{Nowhere}
 use Rattle.pass.specs.Passes.{searched}
-use Rattle.search.proofs.Onward.{stands, onward, onward-none, onward-over, onward-absent, onward-broken, onward-last, onward-more}
+use Rattle.search.proofs.Onward.{stands, onward, onward-none, onward-over, onward-absent, onward-silenced, onward-last, onward-more}
 use borrow.Author.Needs.{needs}
 use Rattle.search.proofs.passes.passes.Statement.{statement}
 use Rattle.search.proofs.passes.passes.Tie as tie
@@ -75,7 +75,7 @@ returns-2 c =
     let l = e .before .before .before .before .before .loop in
     stands (c .silent .ensures)
     (l .inv .2
-    ∙ onward-broken _ _ _ _ _ (take (l .count) (l .ids)) (counted (e .before .before .before .before)) (omega arith)
+    ∙ onward-silenced _ _ _ _ _ (take (l .count) (l .ids)) (counted (e .before .before .before .before)) (omega arith)
     (e .before .before .command .ensures) (not-false _ (e .if1 .left)) (t .before .before .pass .ensures) (t .if2 .taken))
     (l .inv .0) (l .inv .1)
 

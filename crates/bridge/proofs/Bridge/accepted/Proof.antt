@@ -1,9 +1,9 @@
--- `Bridge::obeyed` meets its contract, code by code.
+-- `Bridge::accepted` meets its contract, code by code.
 use borrow.Author.Tests.{ne-eqb}
-use Rattle.bridge.specs.Bridge.{obeyed}
+use Rattle.bridge.specs.Bridge.{accepted}
 use borrow.Author.Needs.{needs}
-use Rattle.bridge.proofs.Bridge.obeyed.Statement.{statement}
-use Rattle.bridge.proofs.Bridge.obeyed.Tie as tie
+use Rattle.bridge.proofs.Bridge.accepted.Statement.{statement}
+use Rattle.bridge.proofs.Bridge.accepted.Tie as tie
 
 device-reset-requires : tie.Need-device-reset-requires
 device-reset-requires c κs = search needs
@@ -36,35 +36,35 @@ pended-requires-5 : tie.Need-pended-requires-5
 pended-requires-5 c κs = search needs
 
 returns : tie.Need-returns
-unfolding obeyed
+unfolding accepted
 returns c = simp (c .before .match .keys1) (c .device-reset .ensures)
 
 returns-2 : tie.Need-returns-2
-unfolding obeyed
+unfolding accepted
 returns-2 c = simp (c .before .match .keys2) (c .set-pointer .ensures)
 
 returns-3 : tie.Need-returns-3
-unfolding obeyed
+unfolding accepted
 returns-3 c = simp (c .before .match .keys3) (c .configured .ensures)
 
 returns-4 : tie.Need-returns-4
-unfolding obeyed
+unfolding accepted
 returns-4 c = simp (c .before .match .keys4) (c .pended .ensures)
 
 returns-5 : tie.Need-returns-5
-unfolding obeyed
+unfolding accepted
 returns-5 c = simp (c .before .before .match .keys5, c .pended2 .ensures, c .before .top-bit .ensures)
 
 returns-6 : tie.Need-returns-6
-unfolding obeyed
+unfolding accepted
 returns-6 c = simp (c .before .match .keys6) (c .pended3 .ensures)
 
 returns-7 : tie.Need-returns-7
-unfolding obeyed
+unfolding accepted
 returns-7 c = simp (c .before .match .keys7) (c .pended4 .ensures)
 
 returns-8 : tie.Need-returns-8
-unfolding obeyed
+unfolding accepted
 returns-8 c =
     let r = c .before .before .match .rest in
     simp (
@@ -79,8 +79,8 @@ returns-8 c =
       c .before .top-bit2 .ensures,
     )
 
-pub obeyed-spec : {M : Type 1} → statement M
-obeyed-spec =
+pub accepted-spec : {M : Type 1} → statement M
+accepted-spec =
     tie.close
     (tie.spec
     device-reset-requires
