@@ -10,7 +10,7 @@ fn main() {
     let mut script = [0u8; 4097];
     let n = io::read_full(STDIN_FILENO, &mut script);
     let mut out = [0u8; transcript::MOST];
-    let len = transcript::transcript(&script[..n], &mut out);
+    let len = output::output(&script[..n], &mut out);
     if !io::write_all(STDOUT_FILENO, &out[..len]) {
         io::write_all(STDERR_FILENO, b"bench: not all of the output was written\n");
     }

@@ -2,7 +2,8 @@
 --   step-write, -read, -wait, -fit       what an event of each kind gives
 --   afterTime-idle                       time passing with nothing pending changes nothing
 --   lineOf-text                          its line
---   transcriptOf-case                    what is printed for a script and for any other bytes
+--   scriptNumber-case                    the number of a script and of any other bytes
+--   runNumber-is, runValues-is           the run's number, and how many bytes it writes
 --   writeNumber-lt, fitNumber-lt         the numbers printed have one digit
 --   Runs                                 the lines left to print bring the buffer to what is promised
 --   runs-first, runs-next, runs-last     where no event has run, one event more, and where all have
@@ -23,9 +24,10 @@ use Rattle.bridge.specs.declared.Pending.{Pending}
 use Rattle.bridge.specs.declared.Pending.the-variants.{Nothing}
 use Rattle.bridge.specs.declared.Bridge.{Bridge}
 use Rattle.bridge.specs.Bridge.{powerOn, readOf, afterWrite, afterTime, finishedOf, afterFitting, busy, bytesOf, takenWhileBusy, goodParameter, writeNumber}
-use Rattle.script.specs.Script.{bytesAt, countOf, isScript, kindAt, lengthAt, sizeAt}
+use Rattle.script.specs.Script.{bytesAt, isScript, kindAt, lengthAt, sizeAt}
 use Rattle.transcript.specs.Text.{Put, behindNumber}
-use Rattle.transcript.specs.Transcript.{decimal, hexadecimal, Step, writeStep, readStep, waitStep, fitStep, stepAt, lineOf, linesFrom, transcriptOf}
+use Rattle.transcript.specs.Transcript.{decimal, hexadecimal, Step, writeStep, readStep, waitStep, fitStep, stepAt, lineOf, linesFrom, linesOf, scriptNumber, runOf, runNumber, runValues}
+use Rattle.transcript.specs.declared.Run.the-variants.{Done, Refused}
 use Rattle.transcript.proofs.Buffer.{sets-append}
 
 -- ---- events
@@ -60,10 +62,29 @@ lineOf-text i t = simp append-assoc
 
 -- ---- the whole
 
-pub transcriptOf-case : (s : List ℕ) (t : Bool) → isScript s ≡ t → cond t (linesFrom s (countOf s) 1 16 powerOn) (0x31 ∷ 0x35 ∷ 0x0A ∷ []) ≡ transcriptOf s
-unfolding transcriptOf
-transcriptOf-case s t h =
-    ap (λ (u : Bool). cond u (linesFrom s (countOf s) 1 16 powerOn) (0x31 ∷ 0x35 ∷ 0x0A ∷ [])) (sym h)
+pub scriptNumber-case : (s : List ℕ) (t : Bool) → isScript s ≡ t → scriptNumber s ≡ cond t 0 15
+unfolding scriptNumber
+scriptNumber-case s t h = ap (λ (u : Bool). cond u 0 15) h
+
+module _ (s : List ℕ) where
+  -- by the two cases of the script's form
+  by-form : (P : ℕ → Type 0) → P 0 → P 15 → P (scriptNumber s)
+  unfolding scriptNumber
+  by-form P done refused = go (isScript s)
+    where
+      go : (t : Bool) → P (cond t 0 15)
+      go true = done
+      go false = refused
+
+  pub runNumber-is : runNumber (runOf s) ≡ scriptNumber s
+  unfolding runOf
+  runNumber-is =
+      by-form (λ (n : ℕ). runNumber (cond (eqb n 0) (Done (length (linesOf s))) (Refused n)) ≡ n) refl refl
+
+  pub runValues-is : runValues (runOf s) ≡ cond (eqb (scriptNumber s) 0) (length (linesOf s) ∷ []) []
+  unfolding runOf
+  runValues-is =
+      by-form (λ (n : ℕ). runValues (cond (eqb n 0) (Done (length (linesOf s))) (Refused n)) ≡ cond (eqb n 0) (length (linesOf s) ∷ []) []) refl refl
 
 -- ---- numbers of one digit
 

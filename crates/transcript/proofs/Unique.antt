@@ -1,4 +1,4 @@
--- The contract leaves one length and one content of the lent buffer for each script.
+-- The contract leaves one answer and one content of the lent buffer for each script.
 use mathlib.Core.Path.{sym, _∙_}
 use denote.Ref.{now}
 use Rattle.checksum.proofs.Unique.{OneAnswerAnd}

@@ -1,19 +1,27 @@
--- What the bench prints for a script (document 01, "The bench script").
+-- The run of a script (document 01, "The bench script" and "Numbers returned").
 --   decimal n           n, which is below 100,000, in decimal digits, no leading zeros
 --   hexadecimal n       a byte as two upper-case hexadecimal digits
 --   Step                what an event gives: its letter, its printed value, the bridge afterwards
 --   stepAt s k b        the event at bit k of the script s, run on the bridge b
 --   lineOf i t          the line of the i-th event
 --   linesFrom s n i k b the lines of n events, numbered from i, from bit k on, run on the bridge b
---   transcriptOf s      all that the bench prints for s
+--   linesOf s           the lines of all events of s
+--   scriptNumber s      the number that the run gives for s
+--   runOf s             what the run answers
+--   runNumber r         the paper's number of the answer r
+--   runValues r         its values: how many bytes were written
+--   runBuffer s d       the lent buffer d afterwards
 use Prim.Native.Nat.{ℕ, zero, suc, _+_, _/_, _%_}
 use mathlib.Core.Bool.{cond}
 use mathlib.Core.List.{List, [], _∷_, _++_}
 use lib.Dec.{eqb, ltb}
+use lib.ListN.{length, drop}
 use Rattle.line.specs.Line.{fitNumber}
 use Rattle.bridge.specs.declared.Bridge.{Bridge}
 use Rattle.bridge.specs.Bridge.{powerOn, readOf, writeNumber, afterWrite, afterTime, afterFitting}
 use Rattle.script.specs.Script.{bytesAt, countOf, kindAt, lengthAt, sizeAt, isScript}
+use Rattle.transcript.specs.declared.Run.{Run}
+use Rattle.transcript.specs.declared.Run.the-variants.{Done, Refused}
 
 -- ---- numbers as text
 
@@ -72,7 +80,28 @@ linesFrom s zero i k b = []
 linesFrom s (suc n) i k b =
     lineOf i (stepAt s k b) ++ linesFrom s n (suc i) (k + sizeAt s k) (stepAt s k b .bridge)
 
--- A malformed script is refused before any event runs, with the single line 15. Otherwise the events run from power-on with no probe,
--- numbered from 1.
-unfoldable pub transcriptOf : List ℕ → List ℕ
-transcriptOf s = cond (isScript s) (linesFrom s (countOf s) 1 16 powerOn) (0x31 ∷ 0x35 ∷ 0x0A ∷ [])
+-- From power-on with no probe, numbered from 1.
+unfoldable pub linesOf : List ℕ → List ℕ
+linesOf s = linesFrom s (countOf s) 1 16 powerOn
+
+-- ---- its answer
+
+-- 15 exactly when the script is not of its form.
+unfoldable pub scriptNumber : List ℕ → ℕ
+scriptNumber s = cond (isScript s) 0 15
+
+unfoldable pub runOf : List ℕ → Run
+runOf s = cond (eqb (scriptNumber s) 0) (Done (length (linesOf s))) (Refused (scriptNumber s))
+
+-- What an answer means. A run that was done has the number 0; a refusal returns its number alone.
+abbrev pub runNumber : Run → ℕ
+runNumber (Done len) = 0
+runNumber (Refused number) = number
+
+abbrev pub runValues : Run → List ℕ
+runValues (Done len) = len ∷ []
+runValues (Refused number) = []
+
+-- The lines lie at the front of the buffer; bytes behind them stay. A refused script changes no byte.
+unfoldable pub runBuffer : List ℕ → List ℕ → List ℕ
+runBuffer s d = cond (eqb (scriptNumber s) 0) (linesOf s ++ drop (length (linesOf s)) d) d

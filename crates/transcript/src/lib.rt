@@ -1,27 +1,36 @@
-// What the bench prints for a script (document 01, "The bench script").
+// The run of a script (document 01, "The bench script").
 //
-// The events of a well-formed script run one after the other through the bridge, from power-on with no probe, and each prints a line:
-// its number from 1, its letter, and the byte read or the number of the answer. Of a malformed script nothing runs, and it prints 15.
+// The events of a well-formed script run one after the other through the bridge, from power-on with no probe, and each gives a line: its
+// number from 1, its letter, and the byte read or the number of the answer. A malformed script is refused with 15 and nothing runs.
 //
-// Worked example: for 00 05 1F 04 6D 24 the lines are 1 W 0, 2 R 18, 3 W 0, 4 T 0 and 5 R 18.
+// Worked example: for 00 05 1F 04 6D 24 the lines are 1 W 0, 2 R 18, 3 W 0, 4 T 0 and 5 R 18, which are 32 bytes.
 mod text;
 
 use bridge::Answer;
 use bridge::Bridge;
 use bridge::Pending;
-ghost use mathlib.Core.List.{_++_};
 ghost use mathlib.Core.Path.{_≡_};
 ghost use mathlib.Core.Bool.{true};
 ghost use Prim.Native.Nat.{_+_, _≤_};
-ghost use lib.ListN.{length, take, drop};
+ghost use lib.ListN.{length, take};
 ghost use Rattle.line.specs.Line.{fitNumber};
 ghost use Rattle.bridge.specs.Bridge.{powerOn, writeNumber, afterWrite, afterFitting};
 ghost use Rattle.script.specs.Script.{bytesAt, countOf, isScript};
 ghost use Rattle.transcript.specs.Text.{Put};
-ghost use Rattle.transcript.specs.Transcript.{linesFrom, transcriptOf};
+ghost use Rattle.transcript.specs.Transcript.{linesFrom, runOf, runBuffer};
 
-// The most bytes that are printed: 16,376 events of two bits fill the longest script, and no line is longer than 11 bytes.
+// The most bytes that a run writes: 16,376 events of two bits fill the longest script, and no line is longer than 11 bytes.
 pub const MOST: usize = 180136;
+
+// The refusal of a script that is not of its form, by its number in the table of document 01.
+pub const REFUSED: u8 = 15;
+
+// What a run answers.
+pub enum Run {
+    // So many bytes were written.
+    Done { len: usize },
+    Refused { number: u8 },
+}
 
 // The n bytes from a place of the script on, at the front of an array.
 fn gathered(script: &[u8], place: usize, n: usize) -> [u8; 8]
@@ -59,7 +68,7 @@ fn fitted(script: &[u8], place: usize, bridge: Bridge) -> Answer
 
 // The events of a well-formed script, each with its line. Each kind has its own way round the loop, so that a read, and a wait with
 // nothing pending, move no bridge.
-fn run(script: &[u8], out: &mut [u8]) -> usize
+fn lines(script: &[u8], out: &mut [u8]) -> usize
     requires { ⌜ (isScript (now script) ≡ true) × (180136 ≤ length (now out)) ⌝ }
     ensures { λ r. ⌜ (Put (now (out .entry)) (now (out .exit)) 0 r (linesFrom (now (script .entry)) (countOf (now (script .entry))) 1 16 powerOn)) × (r ≤ 180136) ⌝ }
 {
@@ -99,15 +108,17 @@ fn run(script: &[u8], out: &mut [u8]) -> usize
     at
 }
 
-// Writes what the bench prints to the front of the buffer, and returns how many bytes that is.
-pub fn transcript(script: &[u8], out: &mut [u8; MOST]) -> usize
-    ensures { λ r. ⌜ r ≡ length (transcriptOf (now (script .entry))) ⌝ }
-    ensures { λ _. ⌜ now (out .exit) ≡ transcriptOf (now (script .entry)) ++ drop (length (transcriptOf (now (script .entry)))) (now (out .entry)) ⌝ }
+// Runs a script. Its lines come to lie at the front of the buffer; a refused script changes no byte.
+pub fn transcript(script: &[u8], out: &mut [u8; MOST]) -> Run
+    ensures { λ r. ⌜ r ≡ runOf (now (script .entry)) ⌝ }
+    ensures { λ _. ⌜ now (out .exit) ≡ runBuffer (now (script .entry)) (now (out .entry)) ⌝ }
 {
-    let printed: &mut [u8] = out;
     if script::is_script(script) {
-        run(script, printed)
+        let written: &mut [u8] = out;
+        Run::Done {
+            len: lines(script, written),
+        }
     } else {
-        text::put_refusal(printed)
+        Run::Refused { number: REFUSED }
     }
 }

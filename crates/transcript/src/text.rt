@@ -90,14 +90,3 @@ pub(crate) fn put_byte(out: &mut [u8], at: usize, byte: u8) -> usize
     out[next + 2] = b'\n';
     next + 3
 }
-
-// The line of a malformed script.
-pub(crate) fn put_refusal(out: &mut [u8]) -> usize
-    requires { ⌜ 3 ≤ length (now out) ⌝ }
-    ensures { λ r. ⌜ Put (now (out .entry)) (now (out .exit)) 0 r (0x31 ∷ 0x35 ∷ 0x0A ∷ []) ⌝ }
-{
-    out[0] = b'1';
-    out[1] = b'5';
-    out[2] = b'\n';
-    3
-}

@@ -1,4 +1,4 @@
--- `bench::main` meets its contract: the count that the transcript gives lies within its buffer.
+-- `bench::main` meets its contract: the length of the output lies within its buffer.
 use mathlib.Core.Path.{sym, ap}
 use Prim.Native.Nat.{_≤_}
 use native.Mathlib.Omega.{arith}
@@ -9,8 +9,8 @@ use Rattle.bench.proofs.main.Statement.{statement}
 use Rattle.bench.proofs.main.Tie as tie
 
 -- what is printed lies at the front of the buffer
-front : (c : tie.After-transcript) → c .transcript .result ≤ length (c .transcript .last .1 .0)
-front c = omega (arith, c .transcript .ensures .0, simp length-append at (ap length (c .transcript .ensures .1)))
+front : (c : tie.After-output) → c .output .result ≤ length (c .output .last .1 .0)
+front c = omega (arith, c .output .ensures .0, simp length-append at (ap length (c .output .ensures .1)))
 
 slice-aggregate-read-full : tie.Need-slice-aggregate-read-full
 slice-aggregate-read-full c = search needs
@@ -21,18 +21,18 @@ read-full-requires c κs = search needs
 array-share-prefix-script : tie.Need-array-share-prefix-script
 array-share-prefix-script c = search needs
 
-slice-aggregate-transcript : tie.Need-slice-aggregate-transcript
-slice-aggregate-transcript c = search needs
+slice-aggregate-output : tie.Need-slice-aggregate-output
+slice-aggregate-output c = search needs
 
-transcript-requires : tie.Need-transcript-requires
-transcript-requires c κs = search needs
+output-requires : tie.Need-output-requires
+output-requires c κs = search needs
 
 array-share-prefix-out : tie.Need-array-share-prefix-out
 array-share-prefix-out c = front c
 
 slice-aggregate-write-all : tie.Need-slice-aggregate-write-all
 slice-aggregate-write-all c =
-    let p = c .before .transcript in
+    let p = c .before .output in
     sym (length-take-le (p .result) (p .last .1 .0) (front (c .before)))
 
 write-all-requires : tie.Need-write-all-requires
@@ -57,8 +57,8 @@ main-spec =
     slice-aggregate-read-full
     read-full-requires
     array-share-prefix-script
-    slice-aggregate-transcript
-    transcript-requires
+    slice-aggregate-output
+    output-requires
     array-share-prefix-out
     slice-aggregate-write-all
     write-all-requires

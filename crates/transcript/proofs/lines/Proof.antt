@@ -1,4 +1,4 @@
--- `transcript::run` meets its contract: each turn runs one event, and the lines left to print bring the buffer to what is promised.
+-- `transcript::lines` meets its contract: each turn runs one event, and the lines left to print bring the buffer to what is promised.
 use mathlib.Core.List.{List}
 use mathlib.Core.Path.{_≡_, sym, ap, _∙_}
 use Prim.Native.Nat.{ℕ, _+_, _-_, _/_, _%_, _≤_}
@@ -11,8 +11,8 @@ use Rattle.transcript.specs.Transcript.{Step, decimal, hexadecimal, step
 use Rattle.bridge.specs.Bridge.{powerOn}
 use Rattle.transcript.proofs.Buffer.{put-same, put-more}
 use Rattle.transcript.proofs.Events.{Runs, runs-first, runs-next, runs-last, step-write, step-read, step-wait, step-fit, afterTime-idle, writeNumber-lt, fitNumber-lt}
-use Rattle.transcript.proofs.run.Statement.{statement}
-use Rattle.transcript.proofs.run.Tie as tie
+use Rattle.transcript.proofs.lines.Statement.{statement}
+use Rattle.transcript.proofs.lines.Tie as tie
 
 abbrev Inv-loop : tie.InvT-loop
 Inv-loop script out₀ count bridge₀ number₀ place₀ at₀ out bridge number place at = Runs script count out₀ out bridge number place at
@@ -193,8 +193,8 @@ returns c =
 same-length : tie.Need-same-length Inv-loop μ-loop
 same-length c = omega arith
 
-pub run-spec : {M : Type 1} → statement M
-run-spec =
+pub lines-spec : {M : Type 1} → statement M
+lines-spec =
     tie.close
     (tie.spec
     Inv-loop
