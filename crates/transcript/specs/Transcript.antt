@@ -8,7 +8,7 @@
 --   linesOf s           the lines of all events of s
 --   scriptNumber s      the number that the run gives for s
 --   runOf s             what the run answers
---   runNumber r         the paper's number of the answer r
+--   runNumber r         document 01's number of the answer r
 --   runValues r         its values: how many bytes were written
 --   runBuffer s d       the lent buffer d afterwards
 use Prim.Native.Nat.{ℕ, zero, suc, _+_, _/_, _%_}
