@@ -162,7 +162,7 @@ impl Bridge {
         }
     }
 
-    // A probe is fitted, deaf and unmarked. A refused one leaves the bridge as it was; nothing pending is in the way.
+    // A probe is fitted, deaf and unmarked. A refused one leaves the bridge as it was. That a command is pending does not matter.
     pub fn fit(self, id: &[u8; 8]) -> Answer
         ensures { λ r. ⌜ (r .number ≡ fitNumber (now (id .entry)) (self .line)) × (r .bridge ≡ afterFitting (now (id .entry)) self) ⌝ }
     {

@@ -55,7 +55,6 @@ fn through16(table: &[u16; 256], bytes: &[u8]) -> u32
     register
 }
 
-// The CRC-8 of the slice.
 pub fn crc8(bytes: &[u8]) -> u8
     ensures { λ r. ⌜ r ≡ crc8Of (now (bytes .entry)) ⌝ }
 {

@@ -1,5 +1,3 @@
-// The tables of the two checksums.
-
 // Entry k is the CRC-8 register after the byte k has gone into a register of zero.
 pub const TABLE8: [u8; 256] = [
     0x00,

@@ -136,7 +136,6 @@ impl Line {
         self
     }
 
-    // A probe with this ID is fitted.
     fn is_fitted(self, id: u64) -> bool
         ensures { λ r. ⌜ r ≡ isFitted id self ⌝ }
     {

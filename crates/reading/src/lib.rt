@@ -16,7 +16,6 @@ const REFUSED_FORM: u8 = 13;
 
 const REFUSED_CRC: u8 = 14;
 
-// What the reader gives.
 pub enum Reading {
     // The code, the address, where the write data starts in the packet and how long it is, and R.
     Parts {

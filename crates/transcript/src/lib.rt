@@ -25,7 +25,6 @@ pub const MOST: usize = 180136;
 // The refusal of a script that is not of its form, by its number in the table of document 01.
 pub const REFUSED: u8 = 15;
 
-// What a run answers.
 pub enum Run {
     // So many bytes were written.
     Done { len: usize },
