@@ -73,6 +73,9 @@ extern "C" {
 /* A buffer of this many bytes is long enough for every packet. */
 #define TRELVOX_LONGEST_PACKET 261
 
+/* No call takes more bytes of stack than this. It is measured, not proved. */
+#define TRELVOX_STACK 1024
+
 /* The number of bytes of each kind of packet, its two bytes of CRC included. */
 #define TRELVOX_WRITE_LENGTH(data_length) ((size_t)(data_length) + 5)
 #define TRELVOX_READ_LENGTH ((size_t)5)

@@ -122,9 +122,9 @@ def search(source):
     return events
 
 
-def long(source):
-    """A script of 4,090 to 4,097 bytes, the longest just too long."""
-    room = 8 * source.choice((source.randrange(4090, 4096), 4096, 4097)) - 16
+def filling(source, size):
+    """As many events as fill a script of this many bytes."""
+    room = 8 * size - 16
     events, mix = [], source.choice((mixed, session, crowd))
     while room > 1000:
         for event in mix(source):
@@ -141,6 +141,18 @@ def long(source):
 
 def any_bytes(source):
     return source.randbytes(source.choice((source.randrange(8), source.randrange(100), source.randrange(4097))))
+
+
+def long(source):
+    """A script of 4,090 to 4,096 bytes; one of 4,096 with some bytes behind it; or 4,097 bytes that are of the form but for their number."""
+    size, behind = source.choice((
+        (source.randrange(4090, 4096), b''),
+        (4096, b''),
+        (4096, bytes(1)),
+        (4096, source.randbytes(source.randrange(1, 8))),
+        (4097, b''),
+    ))
+    return tool.script_of(filling(source, size)) + behind
 
 
 def with_count(script, count):
@@ -190,7 +202,7 @@ SCRIPTS = {  # how many parts of the whole each is, and how it is drawn
     'session': (5, packed(session)),
     'crowd': (2, packed(crowd)),
     'search': (2, packed(search)),
-    'long': (1, packed(long)),
+    'long': (1, long),
     'any bytes': (2, any_bytes),
     'mutated': (6, mutated),
 }

@@ -43,7 +43,7 @@ def prototypes(root):
 
 
 def header(root):
-    """Prototypes of include/trelvox.h that are not those of the exports, and calls of README's table that are not the exports."""
+    """Prototypes of include/trelvox.h, calls of README's table and calls whose stack is measured that are not those of the exports."""
     due, had = list(wanted(root)), list(prototypes(root))
     for line in due:
         if line not in had:
@@ -54,5 +54,8 @@ def header(root):
     if sorted(had) == sorted(due) and had != due:
         yield 'include/trelvox.h: the exports stand in another order'
     names = [function.name for function in exports(root)]
+    for name in names:
+        if f' {name}(' not in (root / 'tests/c/stack.c').read_text():
+            yield f'tests/c/stack.c: no call of {name}'
     if ROW.findall((root / 'README.md').read_text()) != names:
         yield f'README.md: the table of calls is not {", ".join(names)}'

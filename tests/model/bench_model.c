@@ -411,7 +411,7 @@ static size_t transcript(const uint8_t *bytes, size_t n, char *out)
 
 /* ---- input and output */
 
-static uint8_t script[SCRIPT_MOST + 1];
+static uint8_t script[SCRIPT_MOST + 8]; /* room for some bytes too many */
 static char out[EVENTS_MOST * LINE_MOST];
 
 static int get_length(size_t *n)
