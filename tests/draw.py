@@ -144,7 +144,7 @@ def any_bytes(source):
 
 
 def long(source):
-    """A script of 4,090 to 4,096 bytes; one of 4,096 with some bytes behind it; or 4,097 bytes that are of the form but for their number."""
+    """A script of 4,090 to 4,096 bytes; one of 4,096 with some bytes behind it; 4,097 bytes that are of the form but for their number."""
     size, behind = source.choice((
         (source.randrange(4090, 4096), b''),
         (4096, b''),

@@ -4,6 +4,7 @@ complaints; tests/docs runs them all, and tests/faults sees that each can compla
 import re
 
 from contracts import contracts, functions, laws, libraries
+from edits import heads, index, twice
 from header import header
 
 EDIT = re.compile(r'\| (\w+/\w+) \|')
@@ -61,7 +62,7 @@ def undefined(root):
                 yield f'docs/PROMISES.md: no definition {name} in {crate}'
 
 
-CHECKS = (contracts, laws, header, missing_edits, missing_files, unlisted, unmapped, undefined)
+CHECKS = (contracts, laws, header, heads, twice, index, missing_edits, missing_files, unlisted, unmapped, undefined)
 
 
 def complaints(root):

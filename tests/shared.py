@@ -11,11 +11,11 @@ ROOT = Path(__file__).resolve().parent.parent
 PATIENCE = 20  # seconds, for a program that should be done at once
 
 
-def loaded_tool():
-    """tools/script as a module. Its name has no ending, so it is loaded by its path."""
+def loaded_tool(name='script'):
+    """A tool as a module. Its name has no ending, so it is loaded by its path."""
     sys.dont_write_bytecode = True
-    loader = SourceFileLoader('script', str(ROOT / 'tools/script'))
-    module = importlib.util.module_from_spec(importlib.util.spec_from_loader('script', loader))
+    loader = SourceFileLoader(name, str(ROOT / 'tools' / name))
+    module = importlib.util.module_from_spec(importlib.util.spec_from_loader(name, loader))
     loader.exec_module(module)
     return module
 
