@@ -101,7 +101,7 @@ static void check_call(const char *name, void (*call)(void))
 
 int main(void)
 {
-    heading("stack");
+    heading("The most that a call takes, the frame of its caller included");
     check_call("trelvox_crc8", crc8);
     check_call("trelvox_crc16", crc16);
     check_call("trelvox_form_write", form_write);
