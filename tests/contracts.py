@@ -11,7 +11,8 @@ IMPL = re.compile(r"\bimpl\b(?:<[^>]*>)?\s*(\w+)[^{]*\{")
 LAW = re.compile(r'^ *pub (one-[\w-]+) :(.*?)^ *\1 ', re.M | re.S)
 USE = re.compile(r'^use Rattle·(\w+)·proofs\.proofs\.(\S+) as (\S+)$', re.M)
 FORM = re.compile(r'^ *(?:abbrev |unfoldable )?(?:pub )?(One\w*) :', re.M)
-SHARED = re.compile(r'^use Rattle·(\w+)\.proofs\.Unique\.\{([^}]*)\}', re.M)
+SHARED = re.compile(r'^use Rattle·\w+\.proofs\.Unique\.\{(\w+(?:, \w+)*)\}$', re.M)
+BROUGHT = re.compile(r'^use .*\bOne[A-Z].*$', re.M)
 MODULE = re.compile(r'^ *module\b.*$', re.M)
 
 # The one module that a law may stand in: it has every model of the program logic as its parameter, and no premise.
@@ -138,7 +139,10 @@ def misnamed(crate, text):
     for line in MODULE.findall(text):
         if line.strip() != EVERY_MODEL:
             yield f'{crate.name}: a module of proofs/Unique.antt is not that of every model: {line.strip()}'
-    known = {form for _, forms in SHARED.findall(text) for form in re.split(r',\s*', forms)} | set(FORM.findall(text))
+    for line in BROUGHT.findall(text):
+        if not SHARED.match(line):
+            yield f'{crate.name}: no form of law comes from there: {line}'
+    known = {form for forms in SHARED.findall(text) for form in forms.split(', ')} | set(FORM.findall(text))
     for form in sorted({statement.split()[0] for _, statement in LAW.findall(text)} - known):
         yield f'{crate.name}: {form} is neither defined nor shared in proofs/Unique.antt'
 
