@@ -5,9 +5,11 @@
 --   exact            the demand, of the search that has just this outcome
 --   fewer            a search with no other outcomes than one that meets the demand meets it
 --   demand           the demand, of the contract of search::search
+--   promised-some    that contract allows an outcome for every state, allowance and buffer
 use mathlib.Core.Path.{_≡_, refl, sym, ap, ap₂, subst⁻¹, _∙_}
 use mathlib.Core.Bool.{_&&_}
 use mathlib.Core.List.{List, [], _∷_, _++_, append-nil, append-assoc}
+use denote.Ref.{RefT}
 use Prim.Native.Nat.{ℕ, suc, _+_, _*_, _/_, _%_, _<_, _≤_, min, max}
 use native.Mathlib.Decide.{decLe}
 use native.Mathlib.Omega.{arith}
@@ -210,3 +212,21 @@ fewer run other sub meets s r =
 
 pub demand : Meets Promised
 demand = fewer Promised Exactly (λ s r. promised s) exact
+
+-- ---- the contract allows an outcome for every state, allowance and buffer, so that the demand is not met idly
+
+lent : List ℕ → RefT (List ℕ)
+lent d = record { ptr = (0, 0); name = 0; now = d }
+
+pub promised-some : (s : Bridge) (b : ℕ) (d : List ℕ) → Promised s b d (outcome s b d)
+unfolding lent
+promised-some s b d =
+    record {
+      lifetimes = ([], tt);
+      arguments = (s, (b, (lent d, tt)));
+      result = record { answer = answerOf b d s; bridge = bridgeOf b d s };
+      exit = (s, (b, (lent (bufferOf b d s), tt)));
+      promise = (refl, (refl, refl));
+      goesIn = refl;
+      comesBack = refl;
+    }
