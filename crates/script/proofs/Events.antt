@@ -1,70 +1,79 @@
--- Events by their first four bits, and the place behind them.
---   kindAt-head, lengthAt-head, sizeAt-head     kind, byte count and size from the four bits
---   sizeFor-write, -fit, -other                 how many bits an event of each kind takes
---   sizeFor-low, sizeFor-high                   an event takes 2 to 66 bits
---   endOf-next, endOf-none                      one event more, and none left
---   endOf-low                                   each event takes two bits at least
---   countOf-most                                a well-formed script has at most 16,376 events
-use mathlib.Core.Path.{_≡_, refl, ap, ap₂}
+-- Events and the place behind them.
+--   kindAt-piece, lengthAt-piece    the pieces that are an event's kind and a write's byte count
+--   kindAt-lt, lengthAt-lt          there are four kinds, and a write has at most three bytes
+--   sizeAt-write, -read, -wait, -fit, -other    how many bits an event of each kind takes
+--   sizeAt-low, sizeAt-high         an event takes 2 to 66 bits
+--   endOf-next, endOf-none          one event more, and none left
+--   endOf-low                       each event takes two bits at least
+--   countOf-most                    a well-formed script has at most 16,376 events
+use mathlib.Core.Path.{_≡_, ap}
 use mathlib.Core.Bool.{Bool, true, false, cond, _&&_, and-eq-true-iff}
 use mathlib.Core.List.{List}
-use Prim.Native.Nat.{ℕ, zero, suc, _+_, _-_, _*_, _/_, _%_, _<_, _≤_}
+use Prim.Native.Nat.{ℕ, zero, suc, _+_, _-_, _*_, _<_, _≤_}
 use native.Mathlib.Omega.{arith}
 use lib.Dec.{eqb, leb, ltb}
 use lib.ListN.{length}
 use borrow.Author.Tests.{leb-true, ne-eqb}
-use Rattle.script.specs.Script.{numberAt, kindAt, lengthAt, sizeFor, sizeAt, endOf, countOf, isPadded, isScript}
-use Rattle.script.proofs.Numbers.{numberAt-lt, numberAt-add}
+use Rattle.script.specs.declared.Piece.{Piece}
+use Rattle.script.specs.Script.{numberAt, pieceAt, kindAt, lengthAt, sizeFor, sizeAt, endOf, countOf, isPadded, isScript}
+use Rattle.script.proofs.Numbers.{numberAt-lt, piece-number}
 
--- ---- the head of an event
+-- ---- an event and how many bits it takes
 
-pub kindAt-head : (s : List ℕ) (k : ℕ) → numberAt s k 4 / 4 ≡ kindAt s k
-unfolding kindAt
-kindAt-head s k = omega (arith, numberAt-add s k 2 2, numberAt-lt s (k + 2) 2)
+module _ (s : List ℕ) (k : ℕ) where
+  pub kindAt-piece : (p : Piece) → p ≡ pieceAt s k 2 → p .number ≡ kindAt s k
+  unfolding kindAt
+  kindAt-piece p is = piece-number s k 2 p is
 
-pub lengthAt-head : (s : List ℕ) (k : ℕ) → numberAt s k 4 % 4 ≡ lengthAt s k
-unfolding lengthAt
-lengthAt-head s k = omega (arith, numberAt-add s k 2 2, numberAt-lt s (k + 2) 2)
+  pub lengthAt-piece : (p : Piece) → p ≡ pieceAt s (k + 2) 2 → p .number ≡ lengthAt s k
+  unfolding lengthAt
+  lengthAt-piece p is = piece-number s (k + 2) 2 p is
 
-pub sizeAt-head : (s : List ℕ) (k : ℕ) → sizeFor (numberAt s k 4 / 4) (numberAt s k 4 % 4) ≡ sizeAt s k
-unfolding sizeAt
-sizeAt-head s k = ap₂ sizeFor (kindAt-head s k) (lengthAt-head s k)
+  pub kindAt-lt : kindAt s k < 4
+  unfolding kindAt
+  kindAt-lt = numberAt-lt s k 2
 
--- ---- how many bits an event takes
+  pub lengthAt-lt : lengthAt s k < 4
+  unfolding lengthAt
+  lengthAt-lt = numberAt-lt s (k + 2) 2
 
-pub sizeFor-write : (kind n : ℕ) → kind ≡ 0 → 4 + 8 * n ≡ sizeFor kind n
-unfolding sizeFor
-sizeFor-write kind n h = simp h
+  pub sizeAt-write : kindAt s k ≡ 0 → 4 + 8 * lengthAt s k ≡ sizeAt s k
+  unfolding sizeAt sizeFor
+  sizeAt-write h = simp h
 
-pub sizeFor-fit : (kind n : ℕ) → kind ≡ 3 → 66 ≡ sizeFor kind n
-unfolding sizeFor
-sizeFor-fit kind n h = simp h
+  pub sizeAt-read : kindAt s k ≡ 1 → 2 ≡ sizeAt s k
+  unfolding sizeAt sizeFor
+  sizeAt-read h = simp h
 
-pub sizeFor-other : (kind n : ℕ) → (kind ≡ 0 → ⊥) → (kind ≡ 3 → ⊥) → 2 ≡ sizeFor kind n
-unfolding sizeFor
-sizeFor-other kind n w f = simp (ne-eqb kind 0 w, ne-eqb kind 3 f)
+  pub sizeAt-wait : kindAt s k ≡ 2 → 2 ≡ sizeAt s k
+  unfolding sizeAt sizeFor
+  sizeAt-wait h = simp h
 
-pub sizeFor-low : (kind n : ℕ) → 2 ≤ sizeFor kind n
-unfolding sizeFor
-sizeFor-low kind n = go (eqb kind 0) (eqb kind 3)
-  where
-    go : (w f : Bool) → 2 ≤ cond w (4 + 8 * n) (cond f 66 2)
-    go true f = omega arith
-    go false true = omega arith
-    go false false = omega arith
+  pub sizeAt-fit : kindAt s k ≡ 3 → 66 ≡ sizeAt s k
+  unfolding sizeAt sizeFor
+  sizeAt-fit h = simp h
 
-pub sizeFor-high : (kind n : ℕ) → n < 4 → sizeFor kind n ≤ 66
-unfolding sizeFor
-sizeFor-high kind n h = go (eqb kind 0) (eqb kind 3)
-  where
-    go : (w f : Bool) → cond w (4 + 8 * n) (cond f 66 2) ≤ 66
-    go true f = omega arith
-    go false true = omega arith
-    go false false = omega arith
+  pub sizeAt-other : (kindAt s k ≡ 0 → ⊥) → (kindAt s k ≡ 3 → ⊥) → 2 ≡ sizeAt s k
+  unfolding sizeAt sizeFor
+  sizeAt-other w f = simp (ne-eqb (kindAt s k) 0 w, ne-eqb (kindAt s k) 3 f)
 
-sizeAt-low : (s : List ℕ) (k : ℕ) → 2 ≤ sizeAt s k
-unfolding sizeAt
-sizeAt-low s k = sizeFor-low (kindAt s k) (lengthAt s k)
+  pub sizeAt-low : 2 ≤ sizeAt s k
+  unfolding sizeAt sizeFor
+  sizeAt-low = go (eqb (kindAt s k) 0) (eqb (kindAt s k) 3)
+    where
+      go : (w f : Bool) → 2 ≤ cond w (4 + 8 * lengthAt s k) (cond f 66 2)
+      go true f = omega arith
+      go false true = omega arith
+      go false false = omega arith
+
+  pub sizeAt-high : sizeAt s k ≤ 66
+  unfolding sizeAt sizeFor
+  sizeAt-high = go (eqb (kindAt s k) 0) (eqb (kindAt s k) 3)
+    where
+      go : (w f : Bool) → cond w (4 + 8 * lengthAt s k) (cond f 66 2) ≤ 66
+      go true f = omega (arith, lengthAt-lt)
+      go false true = omega arith
+      go false false = omega arith
 
 -- ---- the place behind the events
 

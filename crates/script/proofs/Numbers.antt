@@ -3,9 +3,10 @@
 --   bitAt-pair         a bit of two bytes, seen as one number
 --   numberAt-pair      bits that lie in two bytes
 --   numberAt-shifted   the same, with the shift and the remainder that give them
---   countOf-pair       the event count is the first two bytes
+--   countOf-bytes      the event count is the first two bytes
 --   numberAt-lt        n bits make a number below 2 ^ n
 --   numberAt-add       m + n bits are the first m, and then n
+--   piece-number, piece-lt, piece-next     the number of a piece, how large it is, and the place behind it
 --   bytesAt-snoc       one byte more
 use mathlib.Core.Path.{_≡_, sym, ap, ap₂, _∙_, subst}
 use mathlib.Core.List.{List, [], _∷_, _++_}
@@ -17,7 +18,8 @@ use native.Mathlib.Omega.{arith}
 use lib.ListN.{getD}
 use lib.Pow.{mod-pow-add, mod-mod-pow, field, shr-shr, pow-add, pow-lt, pow-pos}
 use Rattle.script.specs.Pair.{Pair}
-use Rattle.script.specs.Script.{bitAt, numberAt, bytesAt, countOf}
+use Rattle.script.specs.Script.{bitAt, numberAt, pieceAt, bytesAt, countOf}
+use Rattle.script.specs.declared.Piece.{Piece}
 
 -- ---- a number by its bits
 
@@ -86,10 +88,6 @@ numberAt-shifted s k n x pair h =
     ap₂ (λ (y p : ℕ). y / 2 ^ (16 - k % 8 - n) % p) (pair .value) (power-is n h)
     ∙ sym (numberAt-pair s (k / 8) (k % 8) n (omega arith) (pair .second)) ∙ ap (λ (j : ℕ). numberAt s j n) place
 
-pub countOf-pair : (s : List ℕ) (x : ℕ) → Pair s 0 x → countOf s ≡ x
-unfolding countOf
-countOf-pair s x pair = numberAt-pair s 0 0 16 (omega arith) (pair .second) ∙ omega (arith, pair)
-
 -- ---- how large, and how they join
 
 bitAt-lt : (s : List ℕ) (k : ℕ) → bitAt s k < 2
@@ -117,7 +115,24 @@ numberAt-add s k (suc m) n =
     let f : suc k + m ≡ k + suc m = omega arith in
     ap (numberAt s k) e ∙ omega (arith, rest, ap (λ (j : ℕ). numberAt s j n) f, ap (λ (p : ℕ). bitAt s k * p) (pow-add 2 m n))
 
+-- ---- pieces
+
+module _ (s : List ℕ) (k n : ℕ) (p : Piece) (is : p ≡ pieceAt s k n) where
+  pub piece-number : p .number ≡ numberAt s k n
+  piece-number = ap (λ (q : Piece). q .number) is
+
+  pub piece-lt : p .number < 2 ^ n
+  piece-lt = subst (λ (x : ℕ). x < 2 ^ n) (sym piece-number) (numberAt-lt s k n)
+
+  -- no script is so long that a place in it or behind it counts from 0 again
+  pub piece-next : k + n ≤ 5000000 → p .next ≡ k + n
+  piece-next h = ap (λ (q : Piece). q .next) is ∙ omega arith
+
 -- ---- bytes
+
+pub countOf-bytes : (s : List ℕ) → countOf s ≡ numberAt s 0 8 * 256 + numberAt s 8 8
+unfolding countOf
+countOf-bytes s = numberAt-add s 0 8 8
 
 pub bytesAt-snoc : (s : List ℕ) (k n : ℕ) → bytesAt s k (n + 1) ≡ bytesAt s k n ++ (numberAt s (k + 8 * n) 8 ∷ [])
 unfolding bytesAt

@@ -20,26 +20,14 @@ use Rattle.script.proofs.opened as opened
 use Rattle.script.proofs.moved as moved
 use Rattle.script.proofs.bits as bits
 use Rattle.script.proofs.bits_from.Reads as bits-from
-use Rattle.script.proofs.head_at.Reads as head-at
-use Rattle.script.proofs.byte_from.Reads as byte-from
 use Rattle.script.proofs.count_of.Reads as count-of
-use Rattle.script.proofs.size_of.Reads as size-of
 use Rattle.script.proofs.is_script.Reads as is-script
 
 pub one-bits-from : OneAnswer bits-from.Post
 one-bits-from κ a x y s t p q = p ∙ sym q
 
-pub one-head-at : OneAnswer head-at.Post
-one-head-at κ a x y s t p q = p ∙ sym q
-
-pub one-byte-from : OneAnswer byte-from.Post
-one-byte-from κ a x y s t p q = p ∙ sym q
-
 pub one-count-of : OneAnswer count-of.Post
 one-count-of κ a x y s t p q = p ∙ sym q
-
-pub one-size-of : OneAnswer size-of.Post
-one-size-of κ a x y s t p q = p ∙ sym q
 
 pub one-is-script : OneAnswer is-script.Post
 one-is-script κ a x y s t p q = p ∙ sym q

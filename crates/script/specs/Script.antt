@@ -1,6 +1,7 @@
 -- The bench script (document 01, "The bench script").
 --   bitAt s k          bit k of the script s, most significant bit of the first byte first; bits past the end are 0
 --   numberAt s k n     the n bits from bit k on, as a number, most significant bit first
+--   pieceAt s k n      that number and the place behind the bits
 --   bytesAt s k n      the n bytes from bit k on
 --   countOf s          the event count, in the first 16 bits
 --   kindAt s k         the kind of the event at bit k
@@ -12,6 +13,7 @@ use mathlib.Core.Bool.{Bool, cond, _&&_}
 use mathlib.Core.List.{List, [], _∷_}
 use lib.Dec.{eqb, leb, ltb}
 use lib.ListN.{length, getD}
+use Rattle.script.specs.declared.Piece.{Piece}
 
 -- Bit-packed, most significant bit first.
 unfoldable pub bitAt : List ℕ → ℕ → ℕ
@@ -20,6 +22,10 @@ bitAt s k = getD s (k / 8) 0 / 2 ^ (7 - k % 8) % 2
 unfoldable pub numberAt : List ℕ → ℕ → ℕ → ℕ
 numberAt s k zero = 0
 numberAt s k (suc n) = bitAt s k * 2 ^ n + numberAt s (suc k) n
+
+-- A place is a number of 64 bits; behind the last one comes 0 again.
+abbrev pub pieceAt : List ℕ → ℕ → ℕ → Piece
+pieceAt s k n = record { number = numberAt s k n; next = (k + n) % 2 ^ 64 }
 
 unfoldable pub bytesAt : List ℕ → ℕ → ℕ → List ℕ
 bytesAt s k zero = []

@@ -6,19 +6,19 @@
 //
 // Worked example: 00 05 1F 04 6D 24 has five events. The first is 00 01 11110000, a write of the byte F0h; the second is 01, a read.
 ghost use mathlib.Core.Path.{_≡_};
-ghost use Prim.Native.Nat.{_/_, _%_, _≤_, min};
+ghost use Prim.Native.Nat.{_+_, _/_, _≤_, min};
 ghost use lib.ListN.{length};
-ghost use Rattle.script.specs.Script.{numberAt, countOf, sizeFor, endOf, isPadded, isScript};
+ghost use Rattle.script.specs.Script.{pieceAt, countOf, sizeAt, endOf, isPadded, isScript};
 ghost use Rattle.script.specs.Pair.{Pair};
 
 // The kinds of events.
-pub const WRITE: u8 = 0;
+pub const WRITE: u32 = 0;
 
-pub const READ: u8 = 1;
+pub const READ: u32 = 1;
 
-pub const WAIT: u8 = 2;
+pub const WAIT: u32 = 2;
 
-pub const FIT: u8 = 3;
+pub const FIT: u32 = 3;
 
 // The most bytes that a script has.
 pub const MOST: usize = 4096;
@@ -26,8 +26,21 @@ pub const MOST: usize = 4096;
 // The first event stands behind the 16 bits of the event count.
 pub const FIRST: usize = 16;
 
+// How many bits a kind has, the byte count of a write, and a byte.
+pub const KIND: u32 = 2;
+
+pub const LENGTH: u32 = 2;
+
+pub const BYTE: u32 = 8;
+
 // The most bits that are read at once: wherever they begin, they lie in two bytes.
 const WIDEST: u32 = 8;
+
+// Bits that were read, as a number, and the place behind them.
+pub struct Piece {
+    pub number: u32,
+    pub next: usize,
+}
 
 // The byte that a place is in and the byte behind it, as one number.
 fn pair_at(script: &[u8], place: usize) -> u32
@@ -47,14 +60,17 @@ fn at_most_widest(n: u32) -> u32
     if n < WIDEST { n } else { WIDEST }
 }
 
-// The n bits from a place on, as a number; of more than eight, the first eight.
-fn bits_at(script: &[u8], place: usize, n: u32) -> u32
-    ensures { λ r. ⌜ r ≡ numberAt (now (script .entry)) place (min n 8) ⌝ }
+// The n bits from a place on; of more than eight, the first eight.
+fn bits_at(script: &[u8], place: usize, n: u32) -> Piece
+    ensures { λ r. ⌜ r ≡ pieceAt (now (script .entry)) place (min n 8) ⌝ }
 {
     let n = at_most_widest(n);
     let pair = pair_at(script, place);
     let behind = 16 - (place % 8) as u32 - n;
-    (pair >> behind) % (1 << n)
+    Piece {
+        number: (pair >> behind) % (1 << n),
+        next: std::num::wrapping_add_usize(place, n as usize),
+    }
 }
 
 // ---- the reader
@@ -82,50 +98,45 @@ pub fn moved<'a>(r: Reader<'a>, place: usize) -> Reader<'a>
     }
 }
 
-// The n bits from the reader's place on, as `bits_at` has them.
-pub fn bits<'a>(r: Reader<'a>, n: u32) -> u32
-    ensures { λ x. ⌜ x ≡ numberAt (now (r .entry .script)) (r .entry .place) (min n 8) ⌝ }
+// The n bits from the reader's place on, as `bits_at` has them, and the place behind them.
+pub fn bits<'a>(r: Reader<'a>, n: u32) -> Piece
+    ensures { λ x. ⌜ x ≡ pieceAt (now (r .entry .script)) (r .entry .place) (min n 8) ⌝ }
 {
     bits_at(r.script, r.place, n)
 }
 
-// What a reader of the script finds at a place. Its callers have plain slices and numbers.
-pub fn bits_from(script: &[u8], place: usize, n: u32) -> u32
-    ensures { λ x. ⌜ x ≡ numberAt (now (script .entry)) place (min n 8) ⌝ }
+// What a reader of the script finds at a place. Its callers have plain slices and numbers, and go on from the place that it gives.
+pub fn bits_from(script: &[u8], place: usize, n: u32) -> Piece
+    ensures { λ x. ⌜ x ≡ pieceAt (now (script .entry)) place (min n 8) ⌝ }
 {
     bits(moved(opened(script), place), n)
 }
 
 // ---- the events
 
-// The first four bits of an event: its kind, and the byte count of a write.
-pub fn head_at(script: &[u8], place: usize) -> u8
-    ensures { λ r. ⌜ r ≡ numberAt (now (script .entry)) place 4 ⌝ }
-{
-    bits_from(script, place, 4) as u8
-}
-
-// The byte from a place on.
-pub fn byte_from(script: &[u8], place: usize) -> u8
-    ensures { λ r. ⌜ r ≡ numberAt (now (script .entry)) place 8 ⌝ }
-{
-    bits_from(script, place, 8) as u8
-}
-
+// The event count, byte by byte.
 pub fn count_of(script: &[u8]) -> u16
     ensures { λ r. ⌜ r ≡ countOf (now (script .entry)) ⌝ }
 {
-    pair_at(script, 0) as u16
+    let high = bits_from(script, 0, BYTE);
+    let low = bits_from(script, high.next, BYTE);
+    (high.number * 256 + low.number) as u16
 }
 
-// How many bits an event with this head takes.
-pub fn size_of(head: u8) -> usize
-    ensures { λ r. ⌜ r ≡ sizeFor (head / 4) (head % 4) ⌝ }
+// The place behind the event at a place.
+fn behind(script: &[u8], place: usize) -> usize
+    requires { ⌜ place ≤ 4900000 ⌝ }
+    ensures { λ r. ⌜ r ≡ place + sizeAt (now (script .entry)) place ⌝ }
 {
-    match head / 4 {
-        WRITE => 4 + 8 * (head % 4) as usize,
-        FIT => 66,
-        _ => 2,
+    let event = bits_from(script, place, KIND);
+    let kind = event.number;
+    match kind {
+        WRITE => {
+            let length = bits_from(script, event.next, LENGTH);
+            length.next + 8 * length.number as usize
+        }
+        FIT => event.next + 64,
+        _ => event.next,
     }
 }
 
@@ -136,7 +147,7 @@ fn end_of(script: &[u8]) -> usize
     let mut left = count_of(script);
     let mut place = FIRST;
     while 0 < left {
-        place += size_of(head_at(script, place));
+        place = behind(script, place);
         left -= 1;
     }
     place
@@ -154,7 +165,8 @@ fn is_padded(script: &[u8], end: usize) -> bool
     if 8 <= left {
         return false;
     }
-    bits_from(script, end, left as u32) == 0
+    let padding = bits_from(script, end, left as u32);
+    padding.number == 0
 }
 
 // The bytes are of the script's form.

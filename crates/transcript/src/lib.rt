@@ -33,35 +33,38 @@ pub enum Run {
 
 // The n bytes from a place of the script on, at the front of an array.
 fn gathered(script: &[u8], place: usize, n: usize) -> [u8; 8]
-    requires { ⌜ (n ≤ 8) × (place ≤ 5000000) ⌝ }
+    requires { ⌜ (n ≤ 8) × (place ≤ 4900000) ⌝ }
     ensures { λ r. ⌜ (length r ≡ 8) × (take n r ≡ bytesAt (now (script .entry)) place n) ⌝ }
 {
     let mut bytes = [0u8; 8];
+    let mut at = place;
     let mut i = 0;
     while i < n {
-        bytes[i] = script::byte_from(script, place + 8 * i);
+        let byte = script::bits_from(script, at, script::BYTE);
+        bytes[i] = byte.number as u8;
+        at = byte.next;
         i += 1;
     }
     bytes
 }
 
-// The write at a place, of n bytes.
+// The write whose n bytes begin at a place.
 fn written(script: &[u8], place: usize, n: usize, bridge: Bridge) -> Answer
     requires { ⌜ (n ≤ 3) × (place ≤ 4900000) ⌝ }
-    ensures { λ r. ⌜ (r .number ≡ writeNumber (bytesAt (now (script .entry)) (place + 4) n) bridge)
-        × (r .bridge ≡ afterWrite (bytesAt (now (script .entry)) (place + 4) n) bridge) ⌝ }
+    ensures { λ r. ⌜ (r .number ≡ writeNumber (bytesAt (now (script .entry)) place n) bridge)
+        × (r .bridge ≡ afterWrite (bytesAt (now (script .entry)) place n) bridge) ⌝ }
 {
-    let bytes = gathered(script, place + 4, n);
+    let bytes = gathered(script, place, n);
     bridge.write(&bytes[..n])
 }
 
-// The fitting at a place.
+// The fitting whose ID begins at a place.
 fn fitted(script: &[u8], place: usize, bridge: Bridge) -> Answer
     requires { ⌜ place ≤ 4900000 ⌝ }
-    ensures { λ r. ⌜ (r .number ≡ fitNumber (bytesAt (now (script .entry)) (place + 2) 8) (bridge .line))
-        × (r .bridge ≡ afterFitting (bytesAt (now (script .entry)) (place + 2) 8) bridge) ⌝ }
+    ensures { λ r. ⌜ (r .number ≡ fitNumber (bytesAt (now (script .entry)) place 8) (bridge .line))
+        × (r .bridge ≡ afterFitting (bytesAt (now (script .entry)) place 8) bridge) ⌝ }
 {
-    let id = gathered(script, place + 2, 8);
+    let id = gathered(script, place, 8);
     bridge.fit(&id)
 }
 
@@ -79,14 +82,17 @@ fn lines(script: &[u8], out: &mut [u8]) -> usize
     while number <= count {
         let next = text::put_decimal(out, at, number);
         number += 1;
-        let here = place;
-        let head = script::head_at(script, here);
-        place += script::size_of(head);
-        match head / 4 {
+        let event = script::bits_from(script, place, script::KIND);
+        place = event.next;
+        let kind = event.number;
+        match kind {
             script::WRITE => {
-                let answer = written(script, here, (head % 4) as usize, bridge);
+                let length = script::bits_from(script, place, script::LENGTH);
+                let n = length.number as usize;
+                let answer = written(script, length.next, n, bridge);
                 at = text::put_number(out, next, b'W', answer.number);
                 bridge = answer.bridge;
+                place = length.next + 8 * n;
             }
             script::READ => at = text::put_byte(out, next, bridge.read()),
             script::WAIT => {
@@ -98,9 +104,10 @@ fn lines(script: &[u8], out: &mut [u8]) -> usize
                 }
             }
             _ => {
-                let answer = fitted(script, here, bridge);
+                let answer = fitted(script, place, bridge);
                 at = text::put_number(out, next, b'F', answer.number);
                 bridge = answer.bridge;
+                place += 64;
             }
         }
     }

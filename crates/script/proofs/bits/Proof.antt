@@ -23,7 +23,7 @@ use types.Run.{look, init, forget, stop, fld, from, load, of-opd, and-then, no-m
 use sound.WpLaws.{FmC, fmOf, WpFn-mono}
 use denote.RattleType.{owns}
 use denote.Laws.{Is, shows}
-use denote.Plain.{uint-vals, uint-tells, uint-makes, uint-lawful}
+use denote.Plain.{uint-vals, uint-tells, uint-makes}
 use denote.Builtin.{u8, u32, usize}
 use denote.Ref.{now}
 use denote.Signature.{namedLft}
@@ -40,10 +40,13 @@ use denote.Triple.Table.{entered, cited}
 use denote.Triple.Walked.{says, Stays, stay-none, walkOf, goes-none, Walks, ends-at, walked, walk-meets}
 use denote.Exit.{yes}
 use denote.Triple.Clauses.{ensured, lasts}
-use Rattle.script.specs.Script.{numberAt}
+use Rattle.script.specs.Script.{pieceAt}
+use Rattle.script.specs.declared.Piece.{Piece}
 use Rattle.script.specs.declared.Reader.{Reader}
 use Rattle.script.proofs.Held.{B, D, L, typed}
 use Rattle.script.proofs.Reader.Laws as T′
+use Rattle.script.proofs.Piece as P
+use Rattle.script.proofs.Piece.Laws as P′
 use Rattle.script.proofs.bits_at as core
 use Rattle.script.proofs.bits_at.Symbol as core-def
 use Rattle.script.proofs.bits_at.Symbol.{name as #script·bits-at}
@@ -65,8 +68,8 @@ module _ {M : Type 1} (𝓤 : URA M) (H : Heap 𝓤) (A : Atoms 𝓤) (W : Given
   abbrev mach : Val
   mach = T′.lowered d
 
-  abbrev found : ℕ
-  found = numberAt (now (d .script)) (d .place) (min n 8)
+  abbrev found : Piece
+  found = pieceAt (now (d .script)) (d .place) (min n 8)
 
   abbrev at : Vals bits.signature (κ, tt)
   at = (mach ∷ [], (vint w32 n ∷ [], tt))
@@ -102,12 +105,12 @@ module _ {M : Type 1} (𝓤 : URA M) (H : Heap 𝓤) (A : Atoms 𝓤) (W : Given
       move ! (1 ∷ 0 ∷ []) $ fjoin ! $ move ! (2 ∷ 0 ∷ []) $ use2 W (raw (Core 𝓤 H A mem run .pre to)) asked $ frame ! $ done !)
 
   -- of what the call ensures the clause alone: it changes nothing
-  said : (x : ℕ) → ent 𝓤 (ensured 𝓤 H A core.ended (core.clauses 𝓤 H A mem run) (κ, tt) (d .script, (d .place, (n, tt))) tt x) (fact 𝓤 (x ≡ found))
+  said : (x : Piece) → ent 𝓤 (ensured 𝓤 H A core.ended (core.clauses 𝓤 H A mem run) (κ, tt) (d .script, (d .place, (n, tt))) tt x) (fact 𝓤 (x ≡ found))
   said x = exE 𝓤 _ (λ ws. snd∗ 𝓤 (sem 𝓤 H A (lasts core.ended (κ, tt) (d .script, (d .place, (n, tt))) ws)) (fact 𝓤 (x ≡ found)))
 
-  exits : (x : ℕ) (u : Val) → x ≡ found → ent 𝓤 (⋆ 𝓤 H A (‵ (u32 .own x (u ∷ [])) ∷ (‵ (flft κ q) ⊛ ‵ ftrue) ∷ ‵ Own ∷ [])) (Post u)
+  exits : (x : Piece) (u : Val) → x ≡ found → ent 𝓤 (⋆ 𝓤 H A (‵ (P.the-row .own x (u ∷ [])) ∷ (‵ (flft κ q) ⊛ ‵ ftrue) ∷ ‵ Own ∷ [])) (Post u)
   exits x u e =
-      qed W (‵ (u32 .own x (u ∷ [])) ∷ (‵ (flft κ q) ⊛ ‵ ftrue) ∷ ‵ Own ∷ []) ∵
+      qed W (‵ (P.the-row .own x (u ∷ [])) ∷ (‵ (flft κ q) ⊛ ‵ ftrue) ∷ ‵ Own ∷ []) ∵
       suffices ! _ (ends-at 𝓤 H A bits.ended stayed (bits.clauses 𝓤 H A mem run) W (((κ, tt), (q, tt), tt, (d, (n, tt)), at), tt) u x (tt, (tt, tt)) (tt, (tt, tt))) $ says ! e $
       move ! (1 ∷ []) $ frame ! $ nothing ! $ owned ! u32 (Is u32) (uint-makes 𝓤 H A W w32) n _ (refl, ok) $ fjoin ! $ move ! (2 ∷ 0 ∷ []) $ fjoin ! $ frame ! $ done !
 
@@ -120,11 +123,11 @@ module _ {M : Type 1} (𝓤 : URA M) (H : Heap 𝓤) (A : Atoms 𝓤) (W : Given
         assigns ! (of-opd ! (load ! (from ! (fld ! refl (stop !))) (look-in ! 6 (sub ! 1 refl (whole !))))) (from ! (stop !)) (init ! 0 refl (tt, wt .1 .1 .0)) $
         move ! (10 ∷ []) $ use1 W (raw (Core 𝓤 H A mem run .pre to) ⊛ ‵ Own) (apart (wt .1 .1 .0 .fits)) $ split ! $
         calls-at ! fm (Core 𝓤 H A mem run) known to (and-then ! (load ! (from ! (stop !)) (look ! 4 refl)) (and-then ! (load ! (from ! (stop !)) (look ! 2 refl)) (and-then ! (load ! (from ! (stop !)) (look ! 6 refl)) (no-more !)))) (λ u.
-        use1 W (later (some (λ (x : ℕ). ((‵ (flft κ q) ⊛ ‵ ftrue) ⊛ ‵ (u32 .own x (u ∷ []))) ⊛ raw (ensured 𝓤 H A core.ended (core.clauses 𝓤 H A mem run) (κ, tt) (d .script, (d .place, (n, tt))) tt x)))) (id⊢ 𝓤 _) $ await ! tt $ pick ! (λ x.
+        use1 W (later (some (λ (x : Piece). ((‵ (flft κ q) ⊛ ‵ ftrue) ⊛ ‵ (P.the-row .own x (u ∷ []))) ⊛ raw (ensured 𝓤 H A core.ended (core.clauses 𝓤 H A mem run) (κ, tt) (d .script, (d .place, (n, tt))) tt x)))) (id⊢ 𝓤 _) $ await ! tt $ pick ! (λ x.
         split ! $ move ! (1 ∷ []) $ use1 W (raw (fact 𝓤 (x ≡ found))) (said x) $ heard ! (x ≡ found) (λ e. split ! $ move ! (1 ∷ []) $
         -- [the result; the token; what the reader owns; _4; …; _3; …; _2; …; _1; …; room for _0; …]
-        peeks ! u32 (Is u32) (shows 𝓤 H A u32) x (u ∷ []) (λ is.
-        land ! (from ! (stop !)) (init ! 11 refl (uint-lawful 𝓤 H A W w32 .typed x _ is .0)) $
+        peeks ! P.the-row (Is P.the-row) (shows 𝓤 H A P.the-row) x (u ∷ []) (λ is.
+        land ! (from ! (stop !)) (init ! 11 refl (LL.lawful P.the-type P′.the-laws 𝓤 H A W .typed x _ is .0)) $
         returns ! (look ! 11 refl) $ forget ! 3 refl $ forget ! 5 refl $ forget ! 7 refl $ forget ! 9 refl $ forget ! 11 refl $
         move ! (11 ∷ 12 ∷ []) $ free1 ! $ move ! (9 ∷ 10 ∷ []) $ free1 ! $ move ! (7 ∷ 8 ∷ []) $ free1 ! $ move ! (5 ∷ 6 ∷ []) $ free1 ! $ move ! (3 ∷ 4 ∷ []) $ free1 ! $ free0 ! $ by ! (exits x u e))))))))))
 

@@ -21,7 +21,7 @@ use types.Run.{look, init, forget, stop, from, load, and-then, no-more, land, re
 use sound.WpLaws.{FmC, fmOf, WpFn-mono}
 use denote.RattleType.{owns}
 use denote.Laws.{Is, shows}
-use denote.Plain.{uint-vals, uint-tells, uint-makes, uint-lawful}
+use denote.Plain.{uint-vals, uint-tells, uint-makes}
 use denote.Builtin.{u8, u32, usize}
 use denote.Ref.{RefT, NamedLft, now}
 use denote.Signature.{plain}
@@ -36,11 +36,14 @@ use denote.Triple.Table.{entered, cited}
 use denote.Triple.Walked.{says, Stays, stay-none, stay-none-slice, walkOf, goes-none, goes-none-slice, Walks, ends-at, walked, walk-meets}
 use denote.Exit.{yes}
 use denote.Triple.Clauses.{ensured, lasts}
-use Rattle.script.specs.Script.{numberAt}
+use Rattle.script.specs.Script.{pieceAt}
+use Rattle.script.specs.declared.Piece.{Piece}
 use Rattle.script.specs.declared.Reader.{Reader}
 use Rattle.script.proofs.Held.{B}
 use Rattle.script.proofs.Reader as T
 use Rattle.script.proofs.Reader.Laws as T′
+use Rattle.script.proofs.Piece as P
+use Rattle.script.proofs.Piece.Laws as P′
 use Rattle.script.proofs.opened as opened
 use Rattle.script.proofs.opened.Symbol as opened-def
 use Rattle.script.proofs.opened.Symbol.{name as #script·opened}
@@ -77,8 +80,8 @@ module _ {M : Type 1} (𝓤 : URA M) (H : Heap 𝓤) (A : Atoms 𝓤) (W : Given
   abbrev v : Val
   v = sliceVal (s .ptr) (length (s .now))
 
-  abbrev found : ℕ
-  found = numberAt (now s) k (min n 8)
+  abbrev found : Piece
+  found = pieceAt (now s) k (min n 8)
 
   -- the reader's type as a local of a body has it
   abbrev αᵉ : NamedLft
@@ -130,12 +133,12 @@ module _ {M : Type 1} (𝓤 : URA M) (H : Heap 𝓤) (A : Atoms 𝓤) (W : Given
       qed W (‵ (B (κ, tt) .own t (u ∷ [])) ∷ (‵ (flft κ q) ⊛ ‵ ftrue) ∷ []) ∵ nothing ! $ owned ! u32 (Is u32) (uint-makes 𝓤 H A W w32) n _ (refl, ok′) $ fjoin ! $
       move ! (1 ∷ 0 ∷ []) $ fjoin ! $ move ! (1 ∷ 0 ∷ []) $ join ! $ frame ! $ done !
 
-  bits-said : (t : Reader) (x : ℕ) → ent 𝓤 (ensured 𝓤 H A bits.ended (bits.clauses 𝓤 H A mem run) (κ, tt) (t, (n, tt)) tt x) (fact 𝓤 (x ≡ numberAt (now (t .script)) (t .place) (min n 8)))
-  bits-said t x = exE 𝓤 _ (λ ws. snd∗ 𝓤 (sem 𝓤 H A (lasts bits.ended (κ, tt) (t, (n, tt)) ws)) (fact 𝓤 (x ≡ numberAt (now (t .script)) (t .place) (min n 8))))
+  bits-said : (t : Reader) (x : Piece) → ent 𝓤 (ensured 𝓤 H A bits.ended (bits.clauses 𝓤 H A mem run) (κ, tt) (t, (n, tt)) tt x) (fact 𝓤 (x ≡ pieceAt (now (t .script)) (t .place) (min n 8)))
+  bits-said t x = exE 𝓤 _ (λ ws. snd∗ 𝓤 (sem 𝓤 H A (lasts bits.ended (κ, tt) (t, (n, tt)) ws)) (fact 𝓤 (x ≡ pieceAt (now (t .script)) (t .place) (min n 8))))
 
-  exits : (x : ℕ) (u : Val) → x ≡ found → ent 𝓤 (⋆ 𝓤 H A (‵ (u32 .own x (u ∷ [])) ∷ (‵ (flft κ q) ⊛ ‵ ftrue) ∷ ‵ Own ∷ [])) (Post u)
+  exits : (x : Piece) (u : Val) → x ≡ found → ent 𝓤 (⋆ 𝓤 H A (‵ (P.the-row .own x (u ∷ [])) ∷ (‵ (flft κ q) ⊛ ‵ ftrue) ∷ ‵ Own ∷ [])) (Post u)
   exits x u e =
-      qed W (‵ (u32 .own x (u ∷ [])) ∷ (‵ (flft κ q) ⊛ ‵ ftrue) ∷ ‵ Own ∷ []) ∵
+      qed W (‵ (P.the-row .own x (u ∷ [])) ∷ (‵ (flft κ q) ⊛ ‵ ftrue) ∷ ‵ Own ∷ []) ∵
       suffices ! _ (ends-at 𝓤 H A bits-from.ended stayed (bits-from.clauses 𝓤 H A mem run) W (((κ, tt), (q, tt), tt, (s, (k, (n, tt))), at), tt) u x (tt, (tt, (tt, tt))) (tt, (tt, (tt, tt)))) $ says ! e $
       move ! (1 ∷ []) $ frame ! $ nothing ! $ owned ! u32 (Is u32) (uint-makes 𝓤 H A W w32) n _ (refl, ok′) $ fjoin ! $ owned ! usize (Is usize) (uint-makes 𝓤 H A W w64) k _ (refl, ok) $ fjoin ! $
       move ! (2 ∷ 0 ∷ []) $ fjoin ! $ frame ! $ done !
@@ -162,14 +165,14 @@ module _ {M : Type 1} (𝓤 : URA M) (H : Heap 𝓤) (A : Atoms 𝓤) (W : Given
         land ! (from ! (stop !)) (init ! 5 refl (LL.lawful (T.the-type αᵉ) (T′.the-laws αᵉ) 𝓤 H A W .typed t _ is′ .0)) $
         use2 W (raw (Bits 𝓤 H A mem run .pre (to-bits t u′))) (goes-bits t u′) $
         calls-at ! fm (Bits 𝓤 H A mem run) known-bits (to-bits t u′) (and-then ! (load ! (from ! (stop !)) (look ! 4 refl)) (and-then ! (load ! (from ! (stop !)) (look ! 6 refl)) (no-more !))) (λ u″.
-        use1 W (later (some (λ (x : ℕ). ((‵ (flft κ q) ⊛ ‵ ftrue) ⊛ ‵ (u32 .own x (u″ ∷ []))) ⊛ raw (ensured 𝓤 H A bits.ended (bits.clauses 𝓤 H A mem run) (κ, tt) (t, (n, tt)) tt x)))) (id⊢ 𝓤 _) $ await ! tt $ pick ! (λ x.
-        split ! $ move ! (1 ∷ []) $ use1 W (raw (fact 𝓤 (x ≡ numberAt (now (t .script)) (t .place) (min n 8)))) (bits-said t x) $ heard ! (x ≡ numberAt (now (t .script)) (t .place) (min n 8)) (λ e″. split ! $ move ! (1 ∷ []) $
+        use1 W (later (some (λ (x : Piece). ((‵ (flft κ q) ⊛ ‵ ftrue) ⊛ ‵ (P.the-row .own x (u″ ∷ []))) ⊛ raw (ensured 𝓤 H A bits.ended (bits.clauses 𝓤 H A mem run) (κ, tt) (t, (n, tt)) tt x)))) (id⊢ 𝓤 _) $ await ! tt $ pick ! (λ x.
+        split ! $ move ! (1 ∷ []) $ use1 W (raw (fact 𝓤 (x ≡ pieceAt (now (t .script)) (t .place) (min n 8)))) (bits-said t x) $ heard ! (x ≡ pieceAt (now (t .script)) (t .place) (min n 8)) (λ e″. split ! $ move ! (1 ∷ []) $
         -- [the result; the token; what the slice owns; _5; …; _4; …; _3; …; _2; …; _1; …; room for _0; …]
-        peeks ! u32 (Is u32) (shows 𝓤 H A u32) x (u″ ∷ []) (λ is″.
-        land ! (from ! (stop !)) (init ! 13 refl (uint-lawful 𝓤 H A W w32 .typed x _ is″ .0)) $
+        peeks ! P.the-row (Is P.the-row) (shows 𝓤 H A P.the-row) x (u″ ∷ []) (λ is″.
+        land ! (from ! (stop !)) (init ! 13 refl (LL.lawful P.the-type P′.the-laws 𝓤 H A W .typed x _ is″ .0)) $
         returns ! (look ! 13 refl) $ forget ! 3 refl $ forget ! 5 refl $ forget ! 7 refl $ forget ! 9 refl $ forget ! 11 refl $ forget ! 13 refl $
         move ! (13 ∷ 14 ∷ []) $ free1 ! $ move ! (11 ∷ 12 ∷ []) $ free1 ! $ move ! (9 ∷ 10 ∷ []) $ free1 ! $ move ! (7 ∷ 8 ∷ []) $ free1 ! $ move ! (5 ∷ 6 ∷ []) $ free1 ! $ move ! (3 ∷ 4 ∷ []) $ free1 ! $ free0 ! $
-        by ! (exits x u″ (e″ ∙ ap₂ (λ (y : RefT (List ℕ)) (j : ℕ). numberAt (now y) j (min n 8)) (e′ .0 ∙ e .0) (e′ .1)))))))))))))))))))))
+        by ! (exits x u″ (e″ ∙ ap₂ (λ (y : RefT (List ℕ)) (j : ℕ). pieceAt (now y) j (min n 8)) (e′ .0 ∙ e .0) (e′ .1)))))))))))))))))))))
 
 module _ {M : Type 1} (𝓤 : URA M) (H : Heap 𝓤) (A : Atoms 𝓤) (W : Given 𝓤 H A) (mem : Memory → SProp 𝓤) (run : Routine → Fun 𝓤) where
   bits-from-walks : (C : Calls 𝓤 H) (Λ : Loops 𝓤 H) → FmC 𝓤 H (W .laws) C → Triple 𝓤 (C #script·opened) (Opened 𝓤 H A mem run) → Triple 𝓤 (C #script·moved) (Moved 𝓤 H A mem run) → Triple 𝓤 (C #script·bits) (Bits 𝓤 H A mem run)

@@ -1,9 +1,9 @@
 -- `script::end_of` meets its contract: from each event's place the events left end where all of them do.
 use mathlib.Core.Path.{_≡_, refl, sym, ap, _∙_}
-use Prim.Native.Nat.{ℕ, _+_, _-_, _*_, _/_, _%_, _≤_, _<_}
+use Prim.Native.Nat.{ℕ, _+_, _-_, _*_, _≤_, _<_}
 use native.Mathlib.Omega.{arith}
-use Rattle.script.specs.Script.{endOf, sizeFor, sizeAt}
-use Rattle.script.proofs.Events.{sizeAt-head, sizeFor-high, endOf-next, endOf-none}
+use Rattle.script.specs.Script.{endOf}
+use Rattle.script.proofs.Events.{sizeAt-high, endOf-next, endOf-none}
 use Rattle.script.proofs.end_of.Statement.{statement}
 use Rattle.script.proofs.end_of.Tie as tie
 
@@ -19,16 +19,8 @@ count-of-requires c κs = tt
 loop-holds : tie.Need-loop-holds Inv-loop μ-loop
 loop-holds c = (omega (arith, c .count-of .ok), omega (arith, c .count-of .ok), refl)
 
-head-at-requires : tie.Need-head-at-requires Inv-loop μ-loop
-head-at-requires c κs = tt
-
-size-of-requires : tie.Need-size-of-requires Inv-loop μ-loop
-size-of-requires c κs = tt
-
-add-place : tie.Need-add-place Inv-loop μ-loop
-add-place c =
-    let l = c .before .before .before .loop in
-    omega (arith, sizeFor-high (c .before .head-at .result / 4) (c .before .head-at .result % 4) (omega arith), c .size-of .ensures)
+behind-requires : tie.Need-behind-requires Inv-loop μ-loop
+behind-requires c κs = omega arith
 
 sub-left : tie.Need-sub-left Inv-loop μ-loop
 sub-left c = omega arith
@@ -38,12 +30,11 @@ loop-less c = omega arith
 
 loop-again : tie.Need-loop-again Inv-loop μ-loop
 loop-again c =
-    let l = c .before .before .before .loop in
-    let s = c .before .before .before .before .before .before .args .script .now in
-    let size : c .size-of .result ≡ sizeAt s (l .place) = c .size-of .ensures ∙ ap (λ (h : ℕ). sizeFor (h / 4) (h % 4)) (c .before .head-at .ensures) ∙ sizeAt-head s (l .place) in (
+    let l = c .before .before .loop in
+    let s = c .before .before .before .before .before .args .script .now in (
       omega arith,
-      omega (arith, sizeFor-high (c .before .head-at .result / 4) (c .before .head-at .result % 4) (omega arith), c .size-of .ensures),
-      ap (λ (n : ℕ). endOf s (l .left - 1) (l .place + n)) size ∙ endOf-next s (l .left) (l .place) (omega arith) ∙ l .inv .2,
+      omega (arith, c .behind .ensures, sizeAt-high s (l .place)),
+      ap (λ (k : ℕ). endOf s (l .left - 1) k) (c .behind .ensures) ∙ endOf-next s (l .left) (l .place) (omega arith) ∙ l .inv .2,
     )
 
 returns : tie.Need-returns Inv-loop μ-loop
@@ -60,9 +51,7 @@ end-of-spec =
     μ-loop
     count-of-requires
     loop-holds
-    head-at-requires
-    size-of-requires
-    add-place
+    behind-requires
     sub-left
     loop-less
     loop-again

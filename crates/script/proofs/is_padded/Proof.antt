@@ -7,6 +7,7 @@ use lib.Dec.{eqb}
 use lib.ListN.{length}
 use borrow.Author.Tests.{lt-leb, le-leb, le-ltb, lt-ltb}
 use Rattle.script.specs.Script.{numberAt, isPadded}
+use Rattle.script.proofs.Numbers.{piece-number}
 use borrow.Author.Needs.{needs}
 use Rattle.script.proofs.is_padded.Statement.{statement}
 use Rattle.script.proofs.is_padded.Tie as tie
@@ -34,11 +35,11 @@ bits-from-requires c κs = search needs
 returns-3 : tie.Need-returns-3
 unfolding isPadded
 returns-3 c =
-    let a = c .before .before .before .before .args in
+    let a = c .before .before .before .before .before .args in
     let w = 8 * length (a .script .now) in
     let few : w - a .end ≤ 8 = omega arith in
-    let read : c .bits-from .result ≡ numberAt (a .script .now) (a .end) (min (w - a .end) 8) = c .bits-from .ensures in
-    simp (le-leb (a .end) w (c .before .before .if1 .left), lt-ltb w (a .end + 8) (omega arith))
+    let read : c .before .bits-from .result .number ≡ numberAt (a .script .now) (a .end) (min (w - a .end) 8) = piece-number (a .script .now) (a .end) (min (w - a .end) 8) (c .before .bits-from .result) (c .before .bits-from .ensures) in
+    simp (le-leb (a .end) w (c .before .before .before .if1 .left), lt-ltb w (a .end + 8) (omega arith))
     (ap (λ (x : ℕ). eqb x 0) (read ∙ ap (numberAt (a .script .now) (a .end)) (min-eq-left few)))
 
 pub is-padded-spec : {M : Type 1} → statement M

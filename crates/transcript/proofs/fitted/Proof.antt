@@ -10,9 +10,6 @@ use borrow.Author.Needs.{needs}
 use Rattle.transcript.proofs.fitted.Statement.{statement}
 use Rattle.transcript.proofs.fitted.Tie as tie
 
-add-gathered : tie.Need-add-gathered
-add-gathered c = search needs
-
 gathered-requires : tie.Need-gathered-requires
 gathered-requires c κs = search needs
 
@@ -27,4 +24,4 @@ returns c =
     (c .fit .ensures .0 ∙ ap (λ (x : List ℕ). fitNumber x (a .bridge .line)) bytes, c .fit .ensures .1 ∙ ap (λ (x : List ℕ). afterFitting x (a .bridge)) bytes)
 
 pub fitted-spec : {M : Type 1} → statement M
-fitted-spec = tie.close (tie.spec add-gathered gathered-requires fit-requires returns)
+fitted-spec = tie.close (tie.spec gathered-requires fit-requires returns)

@@ -9,9 +9,6 @@ use borrow.Author.Needs.{needs}
 use Rattle.transcript.proofs.written.Statement.{statement}
 use Rattle.transcript.proofs.written.Tie as tie
 
-add-gathered : tie.Need-add-gathered
-add-gathered c = search needs
-
 gathered-requires : tie.Need-gathered-requires
 gathered-requires c κs = search needs
 
@@ -36,7 +33,6 @@ pub written-spec : {M : Type 1} → statement M
 written-spec =
     tie.close
     (tie.spec
-    add-gathered
     gathered-requires
     array-share-prefix-bytes
     slice-aggregate-write
