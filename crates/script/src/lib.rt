@@ -124,7 +124,7 @@ pub fn count_of(script: &[u8]) -> u16
 }
 
 // The place behind the event at a place.
-fn behind(script: &[u8], place: usize) -> usize
+fn event_end(script: &[u8], place: usize) -> usize
     requires { ⌜ place ≤ 4900000 ⌝ }
     ensures { λ r. ⌜ r ≡ place + sizeAt (now (script .entry)) place ⌝ }
 {
@@ -147,7 +147,7 @@ fn end_of(script: &[u8]) -> usize
     let mut left = count_of(script);
     let mut place = FIRST;
     while 0 < left {
-        place = behind(script, place);
+        place = event_end(script, place);
         left -= 1;
     }
     place

@@ -120,9 +120,9 @@ pub fn transcript(script: &[u8], out: &mut [u8; MOST]) -> Run
     ensures { λ _. ⌜ now (out .exit) ≡ runBuffer (now (script .entry)) (now (out .entry)) ⌝ }
 {
     if script::is_script(script) {
-        let written: &mut [u8] = out;
+        let lent: &mut [u8] = out;
         Run::Done {
-            len: lines(script, written),
+            len: lines(script, lent),
         }
     } else {
         Run::Refused { number: REFUSED }

@@ -17,19 +17,19 @@ bits-from-requires-2 c κs = search needs
 mul-result : tie.Need-mul-result
 mul-result c =
     let high = c .before .before .bits-from in
-    omega (arith, piece-lt _ 0 8 (high .result) (high .ensures))
+    omega (arith, piece-lt _ _ 8 (high .result) (high .ensures))
 
 add-result : tie.Need-add-result
 add-result c =
     let high = c .before .before .before .bits-from in
     let low = c .before .before .bits-from2 in
-    omega (arith, piece-lt _ 0 8 (high .result) (high .ensures), piece-lt _ (high .result .next) 8 (low .result) (low .ensures))
+    omega (arith, piece-lt _ _ 8 (high .result) (high .ensures), piece-lt _ _ 8 (low .result) (low .ensures))
 
 cast-result : tie.Need-cast-result
 cast-result c =
     let high = c .before .before .before .bits-from in
     let low = c .before .before .bits-from2 in
-    omega (arith, piece-lt _ 0 8 (high .result) (high .ensures), piece-lt _ (high .result .next) 8 (low .result) (low .ensures))
+    omega (arith, piece-lt _ _ 8 (high .result) (high .ensures), piece-lt _ _ 8 (low .result) (low .ensures))
 
 returns : tie.Need-returns
 returns c =

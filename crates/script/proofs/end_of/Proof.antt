@@ -19,8 +19,8 @@ count-of-requires c κs = tt
 loop-holds : tie.Need-loop-holds Inv-loop μ-loop
 loop-holds c = (omega (arith, c .count-of .ok), omega (arith, c .count-of .ok), refl)
 
-behind-requires : tie.Need-behind-requires Inv-loop μ-loop
-behind-requires c κs = omega arith
+event-end-requires : tie.Need-event-end-requires Inv-loop μ-loop
+event-end-requires c κs = omega arith
 
 sub-left : tie.Need-sub-left Inv-loop μ-loop
 sub-left c = omega arith
@@ -33,8 +33,8 @@ loop-again c =
     let l = c .before .before .loop in
     let s = c .before .before .before .before .before .args .script .now in (
       omega arith,
-      omega (arith, c .behind .ensures, sizeAt-high s (l .place)),
-      ap (λ (k : ℕ). endOf s (l .left - 1) k) (c .behind .ensures) ∙ endOf-next s (l .left) (l .place) (omega arith) ∙ l .inv .2,
+      omega (arith, c .event-end .ensures, sizeAt-high s (l .place)),
+      ap (λ (k : ℕ). endOf s (l .left - 1) k) (c .event-end .ensures) ∙ endOf-next s (l .left) (l .place) (omega arith) ∙ l .inv .2,
     )
 
 returns : tie.Need-returns Inv-loop μ-loop
@@ -51,7 +51,7 @@ end-of-spec =
     μ-loop
     count-of-requires
     loop-holds
-    behind-requires
+    event-end-requires
     sub-left
     loop-less
     loop-again

@@ -1,4 +1,4 @@
--- `script::behind` meets its contract: the place behind an event's last piece, and behind its bytes.
+-- `script::event_end` meets its contract: the place behind an event's last piece, and behind its bytes.
 use mathlib.Core.Path.{sym, ap, _∙_}
 use Prim.Native.Nat.{ℕ}
 use native.Mathlib.Omega.{arith}
@@ -6,8 +6,8 @@ use Rattle.script.specs.Script.{pieceAt}
 use Rattle.script.proofs.Numbers.{piece-lt, piece-next}
 use Rattle.script.proofs.Events.{kindAt-piece, lengthAt-piece, sizeAt-write, sizeAt-fit, sizeAt-other}
 use borrow.Author.Needs.{needs}
-use Rattle.script.proofs.behind.Statement.{statement}
-use Rattle.script.proofs.behind.Tie as tie
+use Rattle.script.proofs.event_end.Statement.{statement}
+use Rattle.script.proofs.event_end.Tie as tie
 
 bits-from-requires : tie.Need-bits-from-requires
 bits-from-requires c κs = search needs
@@ -68,8 +68,8 @@ returns-3 c =
       sizeAt-other (a .script .now) (a .place) (λ h. c .match .rest .0 .1 (kind ∙ h)) (λ h. c .match .rest .1 (kind ∙ h)),
     )
 
-pub behind-spec : {M : Type 1} → statement M
-behind-spec =
+pub event-end-spec : {M : Type 1} → statement M
+event-end-spec =
     tie.close
     (tie.spec
     bits-from-requires
