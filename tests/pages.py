@@ -11,6 +11,7 @@ EDIT = re.compile(r'\| (\w+/\w+) \|')
 FILE = re.compile(r'`([\w./-]+/[\w.-]+\.\w+)`')
 CRATE = re.compile(r'^(\w+):', re.M)
 DEFINED = re.compile(r'((?:`\w+`,? )+)\((\w+)\)')
+OF_MACHINE = re.compile(r"""\b(?:gcc|g\+\+|clang|qemu|valgrind)|(?<!machine )(?<!MACHINE, ')\bcc\b|\$\{?CC\b""")
 
 
 def missing_edits(root):
@@ -62,7 +63,23 @@ def undefined(root):
                 yield f'docs/PROMISES.md: no definition {name} in {crate}'
 
 
-CHECKS = (contracts, laws, header, heads, twice, index, missing_edits, missing_files, unlisted, unmapped, undefined)
+def scripts(root):
+    """The project's own scripts, whatever they are written in."""
+    for folder in ('.ci', 'measure', 'tests', 'tools'):
+        for file in sorted((root / folder).iterdir()):
+            if file.suffix in ('', '.py') and file.is_file():
+                yield file
+
+
+def knowing(root):
+    """Scripts that name a compiler, an emulator or a counter, though tools/machine is there to be asked."""
+    for script in scripts(root):
+        for number, line in enumerate(script.read_text().splitlines(), 1):
+            if script.name != 'machine' and OF_MACHINE.search(line) and not line.startswith('OF_MACHINE'):
+                yield f'{script.relative_to(root)}: line {number} names what only tools/machine knows: {line.strip()}'
+
+
+CHECKS = (contracts, laws, header, heads, twice, index, missing_edits, missing_files, unlisted, unmapped, undefined, knowing)
 
 
 def complaints(root):

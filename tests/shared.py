@@ -1,23 +1,24 @@
-"""What the tests of the bench and of tools/script share."""
+"""What the tests of the bench and of the tools share."""
 
-import importlib.util
 import subprocess
 import sys
-from importlib.machinery import SourceFileLoader
+from functools import cache
 from itertools import zip_longest
 from pathlib import Path
+from runpy import run_path
+from types import SimpleNamespace
 
 ROOT = Path(__file__).resolve().parent.parent
+MACHINE = ROOT / 'tools/machine'
 PATIENCE = 20  # seconds, for a program that should be done at once
 
 
 def loaded_tool(name='script'):
     """A tool as a module. Its name has no ending, so it is loaded by its path."""
-    sys.dont_write_bytecode = True
-    loader = SourceFileLoader(name, str(ROOT / 'tools' / name))
-    module = importlib.util.module_from_spec(importlib.util.spec_from_loader(name, loader))
-    loader.exec_module(module)
-    return module
+    return SimpleNamespace(**run_path(str(ROOT / 'tools' / name)))
+
+
+# ---- programs
 
 
 def succeed(*command):
@@ -31,6 +32,23 @@ def built_bench():
     """The proved bench, built where it is not."""
     succeed('rt', 'check', 'bench')
     return ROOT / 'target/bin/bench'
+
+
+def compiled(source, program, *flags):
+    succeed(MACHINE, 'cc', *flags, source, '-o', program)
+    return program
+
+
+@cache
+def prefix():
+    """The words that stand before a program for x86-64; asked once, since a test runs many."""
+    done = subprocess.run([MACHINE, 'prefix'], stdout=subprocess.PIPE, check=False)
+    return done.stdout.decode().splitlines() if done.returncode == 0 else sys.exit(1)
+
+
+def running(program, *words):
+    """The command that runs a program for x86-64."""
+    return [*prefix(), program, *words]
 
 
 def started(*command):
@@ -48,6 +66,9 @@ def printed(process, source=b''):
     if process.returncode != 0 or errors:
         return f'(exit status {process.returncode}, errors {errors!r})'.encode()
     return out
+
+
+# ---- comparisons
 
 
 def first_difference(a, b):

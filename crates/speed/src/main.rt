@@ -1,5 +1,5 @@
-// Work for the benchmark (bench/wire): 64 probes, and for each letter of the input 2,000 rounds of that work, each command given its time;
-// 20 rounds of f.
+// Work for the benchmark (measure/line): 64 probes, and for each letter of the input, up to 120, 100 rounds of that work, each command given
+// its time; of f one round.
 //   w   1-Wire Reset, Search ROM and eight more bytes written
 //   r   1-Wire Reset, Read ROM and eight bytes read: every probe sends in every slot
 //   s   1-Wire Reset, Search ROM and 64 triplets: a whole pass of a search
@@ -74,24 +74,19 @@ fn listed(list: &[u8; 512]) {
     io::write_all(1, b" ");
 }
 
-// Full searches; the checksum of the last list is printed.
-fn searches(before: Bridge) -> Bridge {
+// A full search; the checksum of its list is printed.
+fn full_search(before: Bridge) -> Bridge {
     let mut list = [0u8; 512];
-    let mut left: u32 = 20;
-    let mut bridge = before;
-    while 0 < left {
-        bridge = searched(bridge, &mut list);
-        left -= 1;
-    }
+    let bridge = searched(before, &mut list);
     listed(&list);
     bridge
 }
 
 fn rounds(before: Bridge, work: u8) -> Bridge {
     if work == b'f' {
-        return searches(before);
+        return full_search(before);
     }
-    let mut left: u32 = 2000;
+    let mut left: u32 = 100;
     let mut bridge = before;
     while 0 < left {
         bridge = round(bridge, work);
@@ -110,7 +105,7 @@ fn shown(bridge: Bridge) {
 }
 
 fn main() {
-    let mut works = [0; 6];
+    let mut works = [0; 120];
     let n = io::read_full(0, &mut works);
     let mut bridge = with_64();
     let mut i = 0;

@@ -10,8 +10,8 @@ Inv-loop work left₀ bridge₀ left bridge = 0 ≤ left
 abbrev μ-loop : tie.MeasureT-loop
 μ-loop work left₀ bridge₀ left bridge = left
 
-searches-requires : tie.Need-searches-requires Inv-loop μ-loop
-searches-requires c κs = search needs
+full-search-requires : tie.Need-full-search-requires Inv-loop μ-loop
+full-search-requires c κs = search needs
 
 returns : tie.Need-returns Inv-loop μ-loop
 returns c = search needs
@@ -40,7 +40,7 @@ rounds-spec =
     (tie.spec
     Inv-loop
     μ-loop
-    searches-requires
+    full-search-requires
     returns
     loop-holds
     round-requires

@@ -4,6 +4,11 @@
  * speed, more is a faster library. Not a test: it says nothing about what is right, and a slow run
  * fails nothing.
  *
+ *   library                    the lines
+ *   library ROW SIDE CALLS     so many calls of one line's work on one side, 0 the baseline, 1 the
+ *                              library, and what work it is; for counting instructions. Past the
+ *                              last row it prints nothing
+ *
  * Both sides take turns, round by round, within one run; the best round of each counts, since what
  * else the machine does can only make a round slower. No call waits for the result of the one
  * before, so calls on 8 bytes overlap within the processor, and where a function happens to lie in
@@ -154,27 +159,54 @@ static void check_agreement(void)
 
 /* ---- The table ------------------------------------------------------------------------------- */
 
-static double lesser(double a, double b)
+static const struct row {
+    const char *what;
+    size_t length;
+    work work;
+} rows[] = {
+    {"CRC-16", 8, crc16_work},
+    {"CRC-16", 261, crc16_work},
+    {"CRC-16", 4096, crc16_work},
+    {"CRC-8", 8, crc8_work},
+    {"CRC-8", 261, crc8_work},
+    {"CRC-8", 4096, crc8_work},
+    {"forming a write-read", TRELVOX_LONGEST_PACKET, form_work},
+    {"reading it", TRELVOX_LONGEST_PACKET, read_work},
+};
+
+enum { ROWS = sizeof rows / sizeof *rows };
+
+static void print_times(void)
 {
-    return a < b ? a : b;
+    double lowest = 1e9;
+    printf("%-32s %13s %13s %8s\n", "", "baseline", "library", "ratio");
+    for (int i = 0; i < ROWS; i++) {
+        double ratio = compare(rows[i].what, rows[i].length, rows[i].work);
+        lowest = ratio < lowest ? ratio : lowest;
+    }
+    printf("lowest ratio %.2f (baseline time / library time; aim 0.95 or more)\n", lowest);
 }
 
-int main(void)
+static unsigned long number(const char *word)
 {
-    static const size_t sizes[] = {8, 261, 4096};
-    double lowest = 1e9;
+    return strtoul(word, NULL, 10);
+}
+
+static void call(const struct row *row, const struct side *side, unsigned long calls)
+{
+    row->work(side, row->length, calls);
+    printf("%-20s %5lu bytes\n", row->what, (unsigned long)row->length);
+}
+
+int main(int count, char **words)
+{
     baseline_start();
     for (size_t i = 0; i < LONGEST; i++)
         bytes[i] = (uint8_t)(131 * i + (i >> 5));
     check_agreement();
-
-    printf("%-32s %13s %13s %8s\n", "", "baseline", "library", "ratio");
-    for (int i = 0; i < 3; i++)
-        lowest = lesser(lowest, compare("CRC-16", sizes[i], crc16_work));
-    for (int i = 0; i < 3; i++)
-        lowest = lesser(lowest, compare("CRC-8", sizes[i], crc8_work));
-    lowest = lesser(lowest, compare("forming a write-read", sizeof packet, form_work));
-    lowest = lesser(lowest, compare("reading it", sizeof packet, read_work));
-    printf("lowest ratio %.2f (baseline time / library time; aim 0.95 or more)\n", lowest);
+    if (count != 4)
+        print_times();
+    else if (number(words[1]) < ROWS)
+        call(&rows[number(words[1])], number(words[2]) ? &library : &baseline, number(words[3]));
     return 0;
 }

@@ -199,8 +199,8 @@ static void search(uint8_t *list)
 }
 
 /*
- * For each letter of the input 2,000 rounds of that work, 20 full searches for f; then the status and the read-data byte, and for f
- * before them the CRC-16 of the list.
+ * For each letter of the input 100 rounds of that work, a full search for f; then the status and the read-data byte, and for f before
+ * them the CRC-16 of the list.
  */
 int main(void)
 {
@@ -208,14 +208,13 @@ int main(void)
     for (unsigned i = 1; i <= 64; i++)
         fit(i);
     for (int kind = getchar(); kind != EOF; kind = getchar()) {
-        for (int i = 0; i < (kind == 'f' ? 20 : 2000); i++) {
-            if (kind == 'f')
-                search(list);
-            else
+        if (kind == 'f') {
+            search(list);
+            printf("%04x ", crc(0xA001, list, 512));
+        } else {
+            for (int i = 0; i < 100; i++)
                 work(kind);
         }
-        if (kind == 'f')
-            printf("%04x ", crc(0xA001, list, 512));
         printf("%02x %02x\n", status, readout);
     }
     return 0;
