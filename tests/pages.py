@@ -6,6 +6,7 @@ import re
 from contracts import contracts, functions, laws, libraries
 from edits import heads, index, twice
 from header import header
+from shared import loaded_tool
 
 EDIT = re.compile(r'\| (\w+/\w+) \|')
 FILE = re.compile(r'`([\w./-]+/[\w.-]+\.\w+)`')
@@ -79,7 +80,25 @@ def knowing(root):
                 yield f'{script.relative_to(root)}: line {number} names what only tools/machine knows: {line.strip()}'
 
 
-CHECKS = (contracts, laws, header, heads, twice, index, missing_edits, missing_files, unlisted, unmapped, undefined, knowing)
+def rows(root):
+    """The cells of README's tables."""
+    return [[cell.strip() for cell in line.strip('|').split('|')]
+            for line in (root / 'README.md').read_text().splitlines() if line.startswith('|')]
+
+
+def unexplained(root):
+    """Words of tools/bench that are not README's."""
+    tool, cells = loaded_tool('bench', root), rows(root)
+    for number, words in tool.REFUSALS.items():
+        if not any(row[0] == number and words in row[1] for row in cells):
+            yield f'README.md: number {number} is not "{words}", as tools/bench has it'
+    for code, (name, _, pointer) in tool.COMMANDS.items():
+        goes_to = tool.REGISTERS.get(pointer, 'as set')
+        if not any(re.match(f'`{code}[ `]', row[0]) and re.match(f'{name}[:,]', row[1]) and row[2:] == [goes_to] for row in cells):
+            yield f'README.md: command {code} is not {name} that leads to {goes_to}, as tools/bench has it'
+
+
+CHECKS = (contracts, laws, header, heads, twice, index, missing_edits, missing_files, unlisted, unmapped, undefined, knowing, unexplained)
 
 
 def complaints(root):

@@ -13,9 +13,9 @@ MACHINE = ROOT / 'tools/machine'
 PATIENCE = 20  # seconds, for a program that should be done at once
 
 
-def loaded_tool(name='script'):
+def loaded_tool(name='script', root=ROOT):
     """A tool as a module. Its name has no ending, so it is loaded by its path."""
-    return SimpleNamespace(**run_path(str(ROOT / 'tools' / name)))
+    return SimpleNamespace(**run_path(str(root / 'tools' / name)))
 
 
 # ---- programs
