@@ -12,6 +12,7 @@
  *     not used and may be NULL.
  *   - A buffer must not overlap the data that goes into it, and nothing else
  *     may write either of them during the call.
+ *   Where one of these is not kept, nothing is promised.
  *
  * Forming a packet
  *   Each forming call returns one number:
@@ -70,6 +71,9 @@ extern "C" {
 #define TRELVOX_OUT_OF_LIMITS 11
 #define TRELVOX_BUFFER_TOO_SHORT 12
 
+/* The CRC-16 of bytes that end with their own, inverted, low byte first. */
+#define TRELVOX_CRC16_SOUND 0xB001
+
 /* A buffer of this many bytes is long enough for every packet. */
 #define TRELVOX_LONGEST_PACKET 261
 
@@ -99,6 +103,10 @@ uint8_t trelvox_crc8(const uint8_t *bytes, size_t length);
  *
  * This is the register itself: of "123456789" it is BB3Dh. A packet carries it
  * inverted (44C2h), low byte first; the forming calls see to that.
+ *
+ * To check bytes received that end with a CRC-16 sent so, take the CRC-16 of
+ * all of them, those last two included: it is TRELVOX_CRC16_SOUND exactly
+ * where their CRC-16 is right.
  */
 uint16_t trelvox_crc16(const uint8_t *bytes, size_t length);
 

@@ -73,6 +73,24 @@ static void compare_checksums(const uint8_t *bytes, size_t length)
     end_with_difference();
 }
 
+/* The header's recipe: TRELVOX_CRC16_SOUND exactly where bytes end with their CRC-16, inverted. */
+static void compare_sound(uint8_t *bytes, size_t length)
+{
+    if (length < 2)
+        return;
+    uint16_t inverted = (uint16_t)~reference_crc16(bytes, length - 2);
+    uint8_t low = (uint8_t)(inverted & 0xFF), high = (uint8_t)(inverted >> 8);
+    if (one_in(2)) {
+        bytes[length - 2] = low;
+        bytes[length - 1] = high;
+    }
+    int right = bytes[length - 2] == low && bytes[length - 1] == high;
+    if ((trelvox_crc16(bytes, length) == TRELVOX_CRC16_SOUND) == right)
+        return;
+    print_bytes(right ? "said to be damaged" : "said to be sound", bytes, length);
+    end_with_difference();
+}
+
 /* Every length, at a place of memory that moves, so that no alignment is favoured. */
 static unsigned long compare_all_checksums(void)
 {
@@ -83,6 +101,7 @@ static unsigned long compare_all_checksums(void)
             uint8_t *bytes = memory + between(0, 15);
             fill(bytes, length);
             compare_checksums(bytes, length);
+            compare_sound(bytes, length);
             cases++;
         }
     }
