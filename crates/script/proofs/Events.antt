@@ -1,7 +1,7 @@
 -- Events and the place behind them.
 --   kindAt-piece, lengthAt-piece    the pieces that are an event's kind and a write's byte count
 --   kindAt-lt, lengthAt-lt          there are four kinds, and a write has at most three bytes
---   sizeAt-write, -read, -wait, -fit, -other    how many bits an event of each kind takes
+--   sizeAt-write, -fit, -other      how many bits an event of each kind takes
 --   sizeAt-low, sizeAt-high         an event takes 2 to 66 bits
 --   endOf-next, endOf-none          one event more, and none left
 --   endOf-low                       each event takes two bits at least
@@ -40,14 +40,6 @@ module _ (s : List ℕ) (k : ℕ) where
   pub sizeAt-write : kindAt s k ≡ 0 → 4 + 8 * lengthAt s k ≡ sizeAt s k
   unfolding sizeAt sizeFor
   sizeAt-write h = simp h
-
-  pub sizeAt-read : kindAt s k ≡ 1 → 2 ≡ sizeAt s k
-  unfolding sizeAt sizeFor
-  sizeAt-read h = simp h
-
-  pub sizeAt-wait : kindAt s k ≡ 2 → 2 ≡ sizeAt s k
-  unfolding sizeAt sizeFor
-  sizeAt-wait h = simp h
 
   pub sizeAt-fit : kindAt s k ≡ 3 → 66 ≡ sizeAt s k
   unfolding sizeAt sizeFor

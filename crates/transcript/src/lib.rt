@@ -17,6 +17,7 @@ ghost use Rattle.line.specs.Line.{fitNumber};
 ghost use Rattle.bridge.specs.Bridge.{powerOn, writeNumber, afterWrite, afterFitting};
 ghost use Rattle.script.specs.Script.{bytesAt, countOf, isScript};
 ghost use Rattle.transcript.specs.Text.{Put};
+ghost use Rattle.transcript.specs.Event.{EventAt};
 ghost use Rattle.transcript.specs.Transcript.{linesFrom, runOf, runBuffer};
 
 // The most bytes that a run writes: 16,376 events of two bits fill the longest script, and no line is longer than 11 bytes.
@@ -29,6 +30,42 @@ pub enum Run {
     // So many bytes were written.
     Done { len: usize },
     Refused { number: u8 },
+}
+
+// An event: its kind, and how many bytes it has from which place on. A read and a wait have none.
+struct Event {
+    kind: u32,
+    n: usize,
+    bytes: usize,
+}
+
+// The event at a place.
+fn event_at(script: &[u8], place: usize) -> Event
+    requires { ⌜ place ≤ 4900000 ⌝ }
+    ensures { λ r. ⌜ EventAt (now (script .entry)) place (r .kind) (r .n) (r .bytes) ⌝ }
+{
+    let event = script::bits_from(script, place, script::KIND);
+    let kind = event.number;
+    match kind {
+        script::WRITE => {
+            let length = script::bits_from(script, event.next, script::LENGTH);
+            Event {
+                kind,
+                n: length.number as usize,
+                bytes: length.next,
+            }
+        }
+        script::FIT => Event {
+            kind,
+            n: 8,
+            bytes: event.next,
+        },
+        _ => Event {
+            kind,
+            n: 0,
+            bytes: event.next,
+        },
+    }
 }
 
 // The n bytes from a place of the script on, at the front of an array.
@@ -82,17 +119,14 @@ fn lines(script: &[u8], out: &mut [u8]) -> usize
     while number <= count {
         let next = text::put_decimal(out, at, number);
         number += 1;
-        let event = script::bits_from(script, place, script::KIND);
-        place = event.next;
-        let kind = event.number;
+        let event = event_at(script, place);
+        place = event.bytes + 8 * event.n;
+        let kind = event.kind;
         match kind {
             script::WRITE => {
-                let length = script::bits_from(script, place, script::LENGTH);
-                let n = length.number as usize;
-                let answer = written(script, length.next, n, bridge);
+                let answer = written(script, event.bytes, event.n, bridge);
                 at = text::put_number(out, next, b'W', answer.number);
                 bridge = answer.bridge;
-                place = length.next + 8 * n;
             }
             script::READ => at = text::put_byte(out, next, bridge.read()),
             script::WAIT => {
@@ -104,10 +138,9 @@ fn lines(script: &[u8], out: &mut [u8]) -> usize
                 }
             }
             _ => {
-                let answer = fitted(script, place, bridge);
+                let answer = fitted(script, event.bytes, bridge);
                 at = text::put_number(out, next, b'F', answer.number);
                 bridge = answer.bridge;
-                place += 64;
             }
         }
     }

@@ -1,16 +1,14 @@
 -- `transcript::lines` meets its contract: each turn runs one event, and the lines left to print bring the buffer to what is promised.
 use mathlib.Core.List.{List}
-use mathlib.Core.Path.{_≡_, sym, ap, subst, _∙_}
+use mathlib.Core.Path.{_≡_, refl, sym, ap, subst, _∙_}
 use Prim.Native.Nat.{ℕ, _+_, _-_, _*_, _≤_}
 use native.Mathlib.Omega.{arith}
 use lib.ListN.{length}
 use borrow.Author.Needs.{needs}
 use Rattle.line.specs.Line.{fitNumber}
 use Rattle.bridge.specs.Bridge.{powerOn, writeNumber, afterWrite, afterFitting}
-use Rattle.script.specs.declared.Piece.{Piece}
-use Rattle.script.specs.Script.{pieceAt, kindAt, lengthAt, sizeAt, bytesAt}
-use Rattle.script.proofs.Numbers.{piece-next}
-use Rattle.script.proofs.Events.{kindAt-piece, lengthAt-piece, kindAt-lt, lengthAt-lt, sizeAt-write, sizeAt-read, sizeAt-wait, sizeAt-fit, sizeAt-high, countOf-most}
+use Rattle.script.specs.Script.{kindAt, sizeAt, bytesAt}
+use Rattle.script.proofs.Events.{kindAt-lt, lengthAt-lt, sizeAt-high, countOf-most}
 use Rattle.transcript.specs.Text.{Put, behindNumber}
 use Rattle.transcript.specs.Transcript.{Step, decimal, hexadecimal, stepAt, linesFrom}
 use Rattle.transcript.proofs.Buffer.{put-same, put-more}
@@ -24,48 +22,39 @@ Inv-loop script out₀ count bridge₀ number₀ place₀ at₀ out bridge numbe
 abbrev μ-loop : tie.MeasureT-loop
 μ-loop script out₀ count bridge₀ number₀ place₀ at₀ out bridge number place at = count + 1 - number
 
--- where a turn reads its event
+-- where a turn has read its event
 abbrev Z : Type 0
-Z = tie.After-bits-from Inv-loop μ-loop
+Z = tie.After-struct-known2 Inv-loop μ-loop
 
 abbrev script-of : Z → List ℕ
-script-of z = z .before .before .before .before .before .before .before .before .before .before .before .args .script .now
+script-of z = z .before .before .before .before .before .before .before .before .before .before .before .before .before .args .script .now
 
 abbrev place-of : Z → ℕ
-place-of z = z .before .before .before .before .before .before .loop .place
-
--- its kind, and the place behind it
-kind : (z : Z) → z .bits-from .result .number ≡ kindAt (script-of z) (place-of z)
-kind z = kindAt-piece (script-of z) (place-of z) (z .bits-from .result) (z .bits-from .ensures)
-
-next : (z : Z) → z .bits-from .result .next ≡ place-of z + 2
-next z = piece-next (script-of z) (place-of z) 2 (z .bits-from .result) (z .bits-from .ensures) (omega arith)
+place-of z = z .before .before .before .before .before .before .before .before .loop .place
 
 -- there is room for the rest of its line
-room : (z : Z) → (let d = z .before .before .before .put-decimal in d .result + 6 ≤ length (d .last .0))
+room : (z : Z) → (let d = z .before .before .before .before .before .put-decimal in d .result + 6 ≤ length (d .last .0))
 room z = omega arith
 
--- the byte count of a write, and the place behind it
-length-of : (z : Z) (p : Piece) → p ≡ pieceAt (script-of z) (z .bits-from .result .next) 2 → (p .number ≡ lengthAt (script-of z) (place-of z)) × (p .next ≡ place-of z + 4)
-length-of z p is =
-    let here = is ∙ ap (λ (k : ℕ). pieceAt (script-of z) k 2) (next z) in
-    (lengthAt-piece (script-of z) (place-of z) p here, omega (arith, piece-next (script-of z) (place-of z + 2) 2 p here (omega arith)))
+-- its bytes lie near its place
+near : (z : Z) → (let e = z .before .before .event-at .result in e .bytes + 8 * e .n ≤ 4900000)
+near z = omega (arith, z .before .before .event-at .ensures .size, sizeAt-high (script-of z) (place-of z))
 
--- a turn, from what its event gives, how many bits it takes, and what is put behind the event's number
-turn : (z : Z) (t : Step) (e : List ℕ) (r size place : ℕ) → (let d = z .before .before .before .put-decimal in
-    let l = z .before .before .before .before .before .before .loop in
-    let a = z .before .before .before .before .before .before .before .before .before .before .before .args in
-    stepAt (a .script .now) (l .place) (l .bridge) ≡ t → size ≡ sizeAt (a .script .now) (l .place) → place ≡ l .place + size
-    → (Put (d .last .0) e (d .result) r (behindNumber (t .letter) (t .value))) × (r ≤ d .result + 6)
-    → Runs (a .script .now) (z .before .before .before .before .before .before .before .before .count-of .result) (a .out .now) e (t .bridge) (l .number + 1) place r)
-turn z t e r size place step sized placed put =
-    let d = z .before .before .before .put-decimal in
-    let l = z .before .before .before .before .before .before .loop in
-    let a = z .before .before .before .before .before .before .before .before .before .before .before .args in
-    let n = z .before .before .before .before .before .before .before .before .count-of .result in
-    subst (λ (k : ℕ). Runs (a .script .now) n (a .out .now) e (t .bridge) (l .number + 1) k r) (sym placed)
-    (runs-next (a .script .now) n (a .out .now) (l .out) (l .bridge) (l .number) (l .place) (l .at) (l .inv) t e size r
-    (z .before .before .before .before .before .loop-test .taken) step sized (omega (arith, sized, sizeAt-high (a .script .now) (l .place))) (omega (arith, put .1, d .ensures .1)) (put-more (d .ensures .0) (put .0)))
+-- a turn, from what its event gives and what is put behind the event's number
+turn : (z : Z) (t : Step) (e : List ℕ) (r : ℕ) → (let d = z .before .before .before .before .before .put-decimal in
+    let l = z .before .before .before .before .before .before .before .before .loop in
+    let a = z .before .before .before .before .before .before .before .before .before .before .before .before .before .args in
+    let x = z .before .before .event-at .result in
+    stepAt (a .script .now) (l .place) (l .bridge) ≡ t → (Put (d .last .0) e (d .result) r (behindNumber (t .letter) (t .value))) × (r ≤ d .result + 6)
+    → Runs (a .script .now) (z .before .before .before .before .before .before .before .before .before .before .count-of .result) (a .out .now) e (t .bridge) (l .number + 1) (x .bytes + 8 * x .n) r)
+turn z t e r step put =
+    let d = z .before .before .before .before .before .put-decimal in
+    let l = z .before .before .before .before .before .before .before .before .loop in
+    let a = z .before .before .before .before .before .before .before .before .before .before .before .before .before .args in
+    let n = z .before .before .before .before .before .before .before .before .before .before .count-of .result in
+    subst (λ (k : ℕ). Runs (a .script .now) n (a .out .now) e (t .bridge) (l .number + 1) k r) (sym (z .before .before .event-at .ensures .size))
+    (runs-next (a .script .now) n (a .out .now) (l .out) (l .bridge) (l .number) (l .place) (l .at) (l .inv) t e (sizeAt (a .script .now) (l .place)) r
+    (z .before .before .before .before .before .before .before .loop-test .taken) step refl (sizeAt-high (a .script .now) (l .place)) (omega (arith, put .1, d .ensures .1)) (put-more (d .ensures .0) (put .0)))
 
 count-of-requires : tie.Need-count-of-requires Inv-loop μ-loop
 count-of-requires c κs = tt
@@ -85,58 +74,47 @@ put-decimal-requires c κs = omega arith
 add-number : tie.Need-add-number Inv-loop μ-loop
 add-number c = omega arith
 
-bits-from-requires : tie.Need-bits-from-requires Inv-loop μ-loop
-bits-from-requires c κs = tt
+event-at-requires : tie.Need-event-at-requires Inv-loop μ-loop
+event-at-requires c κs = omega arith
 
-bits-from-requires-2 : tie.Need-bits-from-requires-2 Inv-loop μ-loop
-bits-from-requires-2 c κs = tt
+mul-place : tie.Need-mul-place Inv-loop μ-loop
+mul-place c =
+    let s = c .before .before .before .before .before .before .before .before .before .before .before .before .args .script .now in
+    omega (arith, c .before .event-at .ensures .size, sizeAt-high s (c .before .before .before .before .before .before .before .loop .place))
 
-cast-n : tie.Need-cast-n Inv-loop μ-loop
-cast-n c = search needs
+add-place : tie.Need-add-place Inv-loop μ-loop
+add-place c = omega (arith, near c)
 
 written-requires : tie.Need-written-requires Inv-loop μ-loop
 written-requires c κs =
-    let z = c .before .before .before in
-    let p = c .before .bits-from2 in
-    let n = length-of z (p .result) (p .ensures) in
-    (omega (arith, n .0, lengthAt-lt (script-of z) (place-of z)), omega (arith, n .1))
+    let z = c .before in
+    let e = z .before .before .event-at in
+    let n = e .ensures .write (sym (e .ensures .kind-is) ∙ c .match .keys1) in
+    (omega (arith, n .0, lengthAt-lt (script-of z) (place-of z)), omega (arith, near z))
 
 put-number-requires : tie.Need-put-number-requires Inv-loop μ-loop
 put-number-requires c κs =
-    let z = c .before .before .before .before .before in
-    let p = c .before .before .before .bits-from2 in
-    let l = z .before .before .before .before .before .before .loop in
-    (room z, omega (arith, c .before .written .ensures .0, writeNumber-lt (bytesAt (script-of z) (p .result .next) (p .result .number)) (l .bridge)))
-
-mul-place : tie.Need-mul-place Inv-loop μ-loop
-mul-place c = search needs
-
-add-place : tie.Need-add-place Inv-loop μ-loop
-add-place c =
-    let z = c .before .before .before .before .before .before .before .before .before .before in
-    let p = c .before .before .before .before .before .before .before .before .bits-from2 in
-    let n = length-of z (p .result) (p .ensures) in
-    omega (arith, n .0, n .1, lengthAt-lt (script-of z) (place-of z))
+    let z = c .before .before .before in
+    let e = z .before .before .event-at .result in
+    let l = z .before .before .before .before .before .before .before .before .loop in
+    (room z, omega (arith, c .before .written .ensures .0, writeNumber-lt (bytesAt (script-of z) (e .bytes) (e .n)) (l .bridge)))
 
 loop-less : tie.Need-loop-less Inv-loop μ-loop
 loop-less c = omega arith
 
 loop-again : tie.Need-loop-again Inv-loop μ-loop
 loop-again c =
-    let put = c .before .before .before .before .put-number in
-    let w = c .before .before .before .before .before .before .written in
-    let p = c .before .before .before .before .before .before .before .before .bits-from2 in
-    let z = c .before .before .before .before .before .before .before .before .before .before in
+    let p = c .before .before .before .put-number in
+    let w = c .before .before .before .before .before .written in
+    let z = c .before .before .before .before .before .before .before in
+    let e = z .before .before .event-at in
     let s = script-of z in
-    let k = place-of z in
-    let b = z .before .before .before .before .before .before .loop .bridge in
-    let x = p .result .number in
-    let n = length-of z (p .result) (p .ensures) in
-    let write = sym (kind z) ∙ c .before .before .before .before .before .before .before .before .before .match .keys1 in
-    let step = step-write s k b x (w .result .number) (w .result .bridge) write (n .0)
-    (w .ensures .0 ∙ ap (λ (j : ℕ). writeNumber (bytesAt s j x) b) (n .1)) (w .ensures .1 ∙ ap (λ (j : ℕ). afterWrite (bytesAt s j x) b) (n .1)) in
-    turn z (record { letter = 0x57; value = decimal (w .result .number); bridge = w .result .bridge }) (put .last .0) (put .result) (4 + 8 * lengthAt s k) (p .result .next + 8 * x)
-    step (sizeAt-write s k write) (omega (arith, n .0, n .1)) (put .ensures)
+    let b = z .before .before .before .before .before .before .before .before .loop .bridge in
+    let write = sym (e .ensures .kind-is) ∙ c .before .before .before .before .before .before .match .keys1 in
+    let n = e .ensures .write write in
+    let step = step-write s (place-of z) b (e .result .n) (w .result .number) (w .result .bridge) write (n .0)
+    (w .ensures .0 ∙ ap (λ (j : ℕ). writeNumber (bytesAt s j (e .result .n)) b) (n .1)) (w .ensures .1 ∙ ap (λ (j : ℕ). afterWrite (bytesAt s j (e .result .n)) b) (n .1)) in
+    turn z (record { letter = 0x57; value = decimal (w .result .number); bridge = w .result .bridge }) (p .last .0) (p .result) step (p .ensures)
 
 read-requires : tie.Need-read-requires Inv-loop μ-loop
 read-requires c κs = tt
@@ -152,10 +130,10 @@ loop-again-2 c =
     let p = c .before .before .put-byte in
     let r = c .before .before .before .read in
     let z = c .before .before .before .before .before .before in
-    let l = z .before .before .before .before .before .before .loop in
-    let read = sym (kind z) ∙ c .before .before .before .before .before .match .keys2 in
-    turn z (record { letter = 0x52; value = hexadecimal (r .result); bridge = l .bridge }) (p .last .0) (p .result) 2 (z .bits-from .result .next)
-    (step-read (script-of z) (l .place) (l .bridge) (r .result) read (r .ensures)) (sizeAt-read (script-of z) (l .place) read) (next z) (p .ensures)
+    let l = z .before .before .before .before .before .before .before .before .loop in
+    let read = sym (z .before .before .event-at .ensures .kind-is) ∙ c .before .before .before .before .before .match .keys2 in
+    turn z (record { letter = 0x52; value = hexadecimal (r .result); bridge = l .bridge }) (p .last .0) (p .result)
+    (step-read (script-of z) (l .place) (l .bridge) (r .result) read (r .ensures)) (p .ensures)
 
 put-number-requires-2 : tie.Need-put-number-requires-2 Inv-loop μ-loop
 put-number-requires-2 c κs = omega arith
@@ -170,10 +148,10 @@ loop-again-3 : tie.Need-loop-again-3 Inv-loop μ-loop
 loop-again-3 c =
     let p = c .before .before .before .before .put-number2 in
     let z = c .before .before .before .before .before .before .before in
-    let l = z .before .before .before .before .before .before .loop in
-    let wait = sym (kind z) ∙ c .before .before .before .before .before .before .match .keys3 in
-    turn z (record { letter = 0x54; value = decimal 0; bridge = l .bridge }) (p .last .0) (p .result) 2 (z .bits-from .result .next)
-    (step-wait (script-of z) (l .place) (l .bridge) (l .bridge) wait (afterTime-idle (l .bridge) (c .enum-told .given .1))) (sizeAt-wait (script-of z) (l .place) wait) (next z) (p .ensures)
+    let l = z .before .before .before .before .before .before .before .before .loop in
+    let wait = sym (z .before .before .event-at .ensures .kind-is) ∙ c .before .before .before .before .before .before .match .keys3 in
+    turn z (record { letter = 0x54; value = decimal 0; bridge = l .bridge }) (p .last .0) (p .result)
+    (step-wait (script-of z) (l .place) (l .bridge) (l .bridge) wait (afterTime-idle (l .bridge) (c .enum-told .given .1))) (p .ensures)
 
 wait-requires : tie.Need-wait-requires Inv-loop μ-loop
 wait-requires c κs = tt
@@ -185,22 +163,19 @@ loop-again-4 : tie.Need-loop-again-4 Inv-loop μ-loop
 loop-again-4 c =
     let p = c .before .before .before .before .put-number2 in
     let z = c .before .before .before .before .before .before .before in
-    let l = z .before .before .before .before .before .before .loop in
-    let wait = sym (kind z) ∙ c .before .before .before .before .before .before .match .keys3 in
-    turn z (record { letter = 0x54; value = decimal 0; bridge = c .wait .result }) (p .last .0) (p .result) 2 (z .bits-from .result .next)
-    (step-wait (script-of z) (l .place) (l .bridge) (c .wait .result) wait (c .wait .ensures)) (sizeAt-wait (script-of z) (l .place) wait) (next z) (p .ensures)
+    let l = z .before .before .before .before .before .before .before .before .loop in
+    let wait = sym (z .before .before .event-at .ensures .kind-is) ∙ c .before .before .before .before .before .before .match .keys3 in
+    turn z (record { letter = 0x54; value = decimal 0; bridge = c .wait .result }) (p .last .0) (p .result)
+    (step-wait (script-of z) (l .place) (l .bridge) (c .wait .result) wait (c .wait .ensures)) (p .ensures)
 
 fitted-requires : tie.Need-fitted-requires Inv-loop μ-loop
-fitted-requires c κs = omega (arith, next (c .before))
+fitted-requires c κs = omega (arith, near (c .before))
 
 put-number-requires-3 : tie.Need-put-number-requires-3 Inv-loop μ-loop
 put-number-requires-3 c κs =
     let z = c .before .before .before in
-    let l = z .before .before .before .before .before .before .loop in
-    (room z, omega (arith, c .before .fitted .ensures .0, fitNumber-lt (bytesAt (script-of z) (z .bits-from .result .next) 8) (l .bridge .line)))
-
-add-place-2 : tie.Need-add-place-2 Inv-loop μ-loop
-add-place-2 c = omega (arith, next (c .before .before .before .before .before .before .before))
+    let l = z .before .before .before .before .before .before .before .before .loop in
+    (room z, omega (arith, c .before .fitted .ensures .0, fitNumber-lt (bytesAt (script-of z) (z .before .before .event-at .result .bytes) 8) (l .bridge .line)))
 
 loop-less-5 : tie.Need-loop-less-5 Inv-loop μ-loop
 loop-less-5 c = omega arith
@@ -211,17 +186,17 @@ loop-again-5 c =
     let f = c .before .before .before .before .before .fitted in
     let m = c .before .before .before .before .before .before .match in
     let z = c .before .before .before .before .before .before .before in
+    let e = z .before .before .event-at .ensures in
     let s = script-of z in
     let k = place-of z in
-    let b = z .before .before .before .before .before .before .loop .bridge in
-    let not-write : kindAt s k ≡ 0 → ⊥ = λ h. m .rest .0 .0 .1 (kind z ∙ h) in
-    let not-read : kindAt s k ≡ 1 → ⊥ = λ h. m .rest .0 .1 (kind z ∙ h) in
-    let not-wait : kindAt s k ≡ 2 → ⊥ = λ h. m .rest .1 (kind z ∙ h) in
-    let fit : kindAt s k ≡ 3 = omega (arith, kindAt-lt s k, not-write, not-read, not-wait) in
+    let b = z .before .before .before .before .before .before .before .before .loop .bridge in
+    let not-write : kindAt s k ≡ 0 → ⊥ = λ h. m .rest .0 .0 .1 (e .kind-is ∙ h) in
+    let not-read : kindAt s k ≡ 1 → ⊥ = λ h. m .rest .0 .1 (e .kind-is ∙ h) in
+    let not-wait : kindAt s k ≡ 2 → ⊥ = λ h. m .rest .1 (e .kind-is ∙ h) in
+    let at = e .fit (omega (arith, kindAt-lt s k, not-write, not-read, not-wait)) in
     let step = step-fit s k b (f .result .number) (f .result .bridge) not-write not-read not-wait
-    (f .ensures .0 ∙ ap (λ (j : ℕ). fitNumber (bytesAt s j 8) (b .line)) (next z)) (f .ensures .1 ∙ ap (λ (j : ℕ). afterFitting (bytesAt s j 8) b) (next z)) in
-    turn z (record { letter = 0x46; value = decimal (f .result .number); bridge = f .result .bridge }) (p .last .0) (p .result) 66 (z .bits-from .result .next + 64)
-    step (sizeAt-fit s k fit) (omega (arith, next z)) (p .ensures)
+    (f .ensures .0 ∙ ap (λ (j : ℕ). fitNumber (bytesAt s j 8) (b .line)) at) (f .ensures .1 ∙ ap (λ (j : ℕ). afterFitting (bytesAt s j 8) b) at) in
+    turn z (record { letter = 0x46; value = decimal (f .result .number); bridge = f .result .bridge }) (p .last .0) (p .result) step (p .ensures)
 
 returns : tie.Need-returns Inv-loop μ-loop
 returns c =
@@ -247,13 +222,11 @@ lines-spec =
     loop-holds
     put-decimal-requires
     add-number
-    bits-from-requires
-    bits-from-requires-2
-    cast-n
-    written-requires
-    put-number-requires
+    event-at-requires
     mul-place
     add-place
+    written-requires
+    put-number-requires
     loop-less
     loop-again
     read-requires
@@ -269,7 +242,6 @@ lines-spec =
     loop-again-4
     fitted-requires
     put-number-requires-3
-    add-place-2
     loop-less-5
     loop-again-5
     same-length
