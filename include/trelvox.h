@@ -12,7 +12,7 @@
  *     not used and may be NULL.
  *   - A buffer must not overlap the data that goes into it, and nothing else
  *     may write either of them during the call.
- *   Where one of these is not kept, nothing is promised.
+ *   Where one of these rules is broken, nothing is promised.
  *
  * Forming a packet
  *   Each forming call returns one number:
@@ -71,7 +71,10 @@ extern "C" {
 #define TRELVOX_OUT_OF_LIMITS 11
 #define TRELVOX_BUFFER_TOO_SHORT 12
 
-/* The CRC-16 of bytes that end with their own, inverted, low byte first. */
+/*
+ * The CRC-16 of bytes whose last two are the CRC-16 of those before them,
+ * inverted, low byte first.
+ */
 #define TRELVOX_CRC16_SOUND 0xB001
 
 /* A buffer of this many bytes is long enough for every packet. */
@@ -104,9 +107,9 @@ uint8_t trelvox_crc8(const uint8_t *bytes, size_t length);
  * This is the register itself: of "123456789" it is BB3Dh. A packet carries it
  * inverted (44C2h), low byte first; the forming calls see to that.
  *
- * To check bytes received that end with a CRC-16 sent so, take the CRC-16 of
- * all of them, those last two included: it is TRELVOX_CRC16_SOUND exactly
- * where their CRC-16 is right.
+ * To check received bytes that end with a CRC-16 in that form, take the CRC-16
+ * of all of them, the last two included. It is TRELVOX_CRC16_SOUND exactly
+ * where the last two are right.
  */
 uint16_t trelvox_crc16(const uint8_t *bytes, size_t length);
 

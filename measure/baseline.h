@@ -1,6 +1,6 @@
 /*
- * The same checksums and packets in C, for the benchmark alone: a byte at a time from a table of
- * 256 entries, as the library works, and sharing nothing with it.
+ * The same checksums and packets in C, for measure/library alone: a byte at a time from a table of
+ * 256 entries, as in the library. It shares nothing with the library.
  */
 #ifndef BASELINE_H
 #define BASELINE_H

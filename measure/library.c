@@ -4,10 +4,10 @@
  * speed, more is a faster library. Not a test: it says nothing about what is right, and a slow run
  * fails nothing.
  *
- *   library                    the lines
- *   library ROW SIDE CALLS     so many calls of one line's work on one side, 0 the baseline, 1 the
- *                              library, and what work it is; for counting instructions. Past the
- *                              last row it prints nothing
+ *   library                    prints the lines
+ *   library ROW SIDE CALLS     for counting instructions: makes so many calls of one line's work on
+ *                              one side (0 the baseline, 1 the library) and prints what work it is;
+ *                              past the last row it prints nothing
  *
  * Both sides take turns, round by round, within one run; the best round of each counts, since what
  * else the machine does can only make a round slower. No call waits for the result of the one

@@ -1,5 +1,5 @@
 /*
- * A plain model of the line in C, for the benchmark alone: it does the work of the program speed, slot by slot, with the state in
+ * A plain model of the line in C, for measure/line alone: it does the work of the program speed, slot by slot, with the state in
  * one place and changed where it lies. It shares nothing with the library.
  */
 #include <stdint.h>

@@ -1,4 +1,4 @@
-/* Reading a packet, for the tests and the benchmark: exported by libtrial.a alone. */
+/* Reading a packet, for these tests and measure/library. Only libtrial.a exports it. */
 #ifndef TRIAL_H
 #define TRIAL_H
 
