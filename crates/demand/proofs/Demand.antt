@@ -4,8 +4,8 @@
 --   promised         an outcome that the contract allows is that one
 --   exact            the demand, of the search that has just this outcome
 --   fewer            a search with no other outcomes than one that meets the demand meets it
+--   promised-some    the contract allows an outcome for every state, allowance and buffer; promised-always, it has no `requires`
 --   demand           the demand, of the contract of search::search
---   promised-some    that contract allows an outcome for every state, allowance and buffer
 use mathlib.Core.Path.{_≡_, refl, sym, ap, ap₂, subst⁻¹, _∙_}
 use mathlib.Core.Bool.{_&&_}
 use mathlib.Core.List.{List, [], _∷_, _++_, append-nil, append-assoc}
@@ -24,14 +24,15 @@ use Rattle.bridge.specs.Bridge.{afterFitting}
 use Rattle.bridge.specs.Reached.{Bytes, Reached}
 use Rattle.bridge.specs.Reached.Reached.{fit}
 use Rattle.search.specs.declared.Answer.{Answer}
-use Rattle.search.specs.declared.Answer.the-variants.{Listed, Refused}
+use Rattle.search.specs.declared.Answer.the-variants.{Listed}
 use Rattle.search.specs.Search.{answerOf, answerNumber, answerValues, bytesFrom, listOf, bufferOf, bridgeOf}
+use Rattle.search.proofs.search.Reads as search-fn
 use Rattle.search.proofs.Bytes.{length-listOf}
 use Rattle.search.proofs.Call.{Answered, short, done}
 use Rattle.pass.specs.Passes.{search}
 use Rattle.enumeration.proofs.Order.{in-order-unique}
-use Rattle.demand.specs.Demand.{Outcome, Search, Done, bytesListed, idsAt, afterResume, Resumed, Demand, Meets}
-use Rattle.demand.specs.Contract.{Called, Promised}
+use Rattle.demand.specs.Demand.{Outcome, Search, Done, bytesListed, idsAt, afterResume, Resumes, Demand, Meets}
+use Rattle.demand.specs.Contract.{Promised}
 use Rattle.demand.proofs.Reached.{reached-search}
 use Rattle.demand.proofs.Search.{order-of, order-is, listed-of, never-silent, number-of, complete-when, passes-used, longer-by, kept-ids, resume-kept, resume-last, at-most, fitting-one}
 
@@ -133,15 +134,14 @@ module _ (s : Bridge) (r : Reached s) where
             ∙ ap (λ (l : List ℕ). l ++ listOf (more .0)) (sym (bytes-of b d o g)),
       )
 
-  resume-of : (b : ℕ) (d : List ℕ) (o : Outcome) → Done Exactly s b d o → 0 < length (bytesListed o) → (p : List ℕ) × (x : ℕ) × (bytesListed o ≡ listOf (p ++ x ∷ [])) × Resumed x (afterResume (o .bridge) .line)
+  resume-of : (b : ℕ) (d : List ℕ) (o : Outcome) → Done Exactly s b d o → 0 < length (bytesListed o) → (p : List ℕ) × (x : ℕ) × (bytesListed o ≡ listOf (p ++ x ∷ [])) × Resumes x (o .bridge)
   resume-of b d o g h =
       let e = bytes-of b d o g in
       let last = resume-last s r b (omega (arith, ap length e, length-listOf (search b s .ids))) in (
         last .0,
         last .1,
         e ∙ ap listOf (last .2),
-        subst⁻¹ (λ (y : Bridge). Resumed (last .1) (afterResume y .line))
-            (ap (λ (x : Outcome). x .bridge) (g .0) ∙ settled b d (g .1) .state) (last .3),
+        subst⁻¹ (Resumes (last .1)) (ap (λ (x : Outcome). x .bridge) (g .0) ∙ settled b d (g .1) .state) (last .3),
       )
 
   kept-of : (b : ℕ) (d : List ℕ) (o : Outcome) → Exactly s b d o → (idsAt (o .bridge) ≡ idsAt s) × (idsAt (afterResume (o .bridge)) ≡ idsAt s)
@@ -173,6 +173,7 @@ exact s r =
       order = order-of s r;
       ordered = order-is s r;
       unique = λ l o. in-order-unique o (order-is s r);
+      some = λ b d. (outcome s b d, refl);
       done = λ b d o g. ap (λ (x : Outcome). answerNumber (x .answer)) (g .0) ∙ ap answerNumber (settled s r b d (g .1) .answer);
       listed = λ b d o g. ap (λ (x : Outcome). x .list) (g .0) ∙ list-of s r b d (g .1);
       values = λ b d o g. ap (λ (x : Outcome). answerValues (x .answer)) (g .0) ∙ values-of s r b d (g .1);
@@ -187,14 +188,15 @@ exact s r =
 
 -- ---- the searches that meet it
 
--- a search that has, from the states that calls reach, no outcome but those of one that meets the demand meets it too
-pub fewer : (run other : Search) → ((s : Bridge) → Reached s → (b : ℕ) (d : List ℕ) (o : Outcome) → run s b d o → other s b d o) → Meets other → Meets run
-fewer run other sub meets s r =
+-- a search that answers, and has from the states that calls reach no outcome but those of one that meets the demand, meets it too
+pub fewer : (run other : Search) → ((s : Bridge) (b : ℕ) (d : List ℕ) → (o : Outcome) × run s b d o) → ((s : Bridge) → Reached s → (b : ℕ) (d : List ℕ) (o : Outcome) → run s b d o → other s b d o) → Meets other → Meets run
+fewer run other some sub meets s r =
     record {
       atMost = meets s r .atMost;
       order = meets s r .order;
       ordered = meets s r .ordered;
       unique = meets s r .unique;
+      some = some s;
       done = λ b d o g. meets s r .done b d o (sub s r b d o (g .0), g .1);
       listed = λ b d o g. meets s r .listed b d o (sub s r b d o (g .0), g .1);
       values = λ b d o g. meets s r .values b d o (sub s r b d o (g .0), g .1);
@@ -210,10 +212,7 @@ fewer run other sub meets s r =
       kept = λ b d o g. meets s r .kept b d o (sub s r b d o g);
     }
 
-pub demand : Meets Promised
-demand = fewer Promised Exactly (λ s r. promised s) exact
-
--- ---- the contract allows an outcome for every state, allowance and buffer, so that the demand is not met idly
+-- ---- the contract allows an outcome for every state, allowance and buffer
 
 lent : List ℕ → RefT (List ℕ)
 lent d = record { ptr = (0, 0); name = 0; now = d }
@@ -230,3 +229,12 @@ promised-some s b d =
       goesIn = refl;
       comesBack = refl;
     }
+
+-- it asks for nothing
+pub promised-always : (κ : _) (a : _) → search-fn.Pre κ a
+promised-always κ a = tt
+
+-- ---- the demand, of the contract
+
+pub demand : Meets Promised
+demand = fewer Promised Exactly (λ s b d. (outcome s b d, promised-some s b d)) (λ s r. promised s) exact

@@ -3,7 +3,7 @@
 --   order-of         the IDs on the line in search order
 --   listed-of, number-of, complete-when, passes-used, longer-by, resume-last, fitting-one     the sentences of the demand, of `search`
 --   capped-at        more than 64 passes do what 64 do
-use mathlib.Core.Path.{_≡_, refl, sym, ap, ap₂, subst, subst⁻¹, _∙_}
+use mathlib.Core.Path.{_≡_, refl, sym, ap, subst, subst⁻¹, _∙_}
 use mathlib.Core.Bool.{Bool, true, false, cond, _&&_}
 use mathlib.Core.List.{List, [], _∷_, _++_, map, Memᴰ·of-map, Memᴰ·append-left, Memᴰ·append-right}
 use mathlib.Core.List.List·Memᴰ.{List·Memᴰ·head}
@@ -19,7 +19,9 @@ use Rattle.probe.specs.Probe.{deafNew, obeyed, resumed}
 use Rattle.line.specs.declared.Line.{Line}
 use Rattle.line.specs.Line.{fitted, idOf, idsOf, fitNumber}
 use Rattle.bridge.specs.declared.Bridge.{Bridge}
-use Rattle.bridge.specs.Bridge.{command, afterFitting}
+use Rattle.bridge.specs.declared.Pending.{Pending}
+use Rattle.bridge.specs.declared.Pending.the-variants.{Nothing, Reset}
+use Rattle.bridge.specs.Bridge.{isPending, pended, accepted, bytesOf, takenWhileBusy, goodParameter, writeNumber, afterWrite, finishedReset, finishedOf, afterTime, command, afterFitting}
 use Rattle.bridge.specs.Reached.{Bytes, Reached}
 use Rattle.bridge.specs.Reached.Reached.{fit}
 use Rattle.pass.specs.Passes.{search}
@@ -34,7 +36,7 @@ use Rattle.searching.proofs.Holds.{obeyed-id, holds-command}
 use Rattle.searching.proofs.Pass.{commanded-line}
 use Rattle.searching.proofs.Facts.{search-facts, search-capped}
 use Rattle.demand.specs.Sound.{Sound}
-use Rattle.demand.specs.Demand.{idsAt, afterResume, Resumed}
+use Rattle.demand.specs.Demand.{idsAt, afterResume, Resumed, Resumes}
 use Rattle.demand.proofs.Reached.{Kept, holds-ids, holds-length, holds-fit, new-id, reached-kept, reached-sound}
 
 -- ---- lists
@@ -78,6 +80,19 @@ resumed-line x ids rest l narrow there e =
         ap (λ (v : Probe). v .condition) (sym f) ∙ resumed-condition x i lt
         ∙ ap (λ (j : ℕ). cond (eqb j x) Selected Deaf)
         (sym (id-standing 64 x i) ∙ sym (obeyed-id 0xA5 (standing 64 x i)) ∙ ap idOf f)
+
+-- with nothing pending the reset is accepted, and then the Resume
+reset-accepted : (s : Bridge) → s .pending ≡ Nothing → writeNumber (0xB4 ∷ []) s ≡ 0
+unfolding writeNumber bytesOf takenWhileBusy goodParameter
+reset-accepted s e = ap (λ (p : Pending). cond {A = ℕ} (cond (isPending p) true false) 6 0) e
+
+resume-accepted : (s : Bridge) → s .pending ≡ Nothing → writeNumber (0xA5 ∷ 0xA5 ∷ []) s ≡ 0
+unfolding writeNumber bytesOf takenWhileBusy goodParameter
+resume-accepted s e = ap (λ (p : Pending). cond {A = ℕ} (cond (isPending p) true false) 6 0) e
+
+reset-done : (s : Bridge) → s .pending ≡ Nothing → command (0xB4 ∷ []) s .pending ≡ Nothing
+unfolding command afterWrite accepted afterTime finishedOf finishedReset
+reset-done s e = ap (λ (n : ℕ). afterTime (cond (eqb n 0) (pended Reset s) s) .pending) (reset-accepted s e)
 
 -- ---- the search, from a state that calls reach
 
@@ -152,10 +167,19 @@ module _ (s : Bridge) (r : Reached s) where
       (subst⁻¹ (Among x) (resume-kept b) (listed-there b p x e))
       (commanded-line (search b s .bridge) (map (standing 64 x) (stock .ids)) (free (stock .entries)) (c .0) (c .1) 0xA5)
 
-  pub resume-last : (b : ℕ) → 0 < length (search b s .ids) → (p : List ℕ) × (x : ℕ) × (search b s .ids ≡ p ++ x ∷ []) × Resumed x (afterResume (search b s .bridge) .line)
+  pub resume-last : (b : ℕ) → 0 < length (search b s .ids) → (p : List ℕ) × (x : ℕ) × (search b s .ids ≡ p ++ x ∷ []) × Resumes x (search b s .bridge)
   resume-last b h =
       let l = last-one (search b s .ids) h in
-      (l .0, l .1, l .2, resumed-last b (l .0) (l .1) (l .2))
+      let idle = found b .closing (l .0) (l .1) (l .2) .1 in (
+        l .0,
+        l .1,
+        l .2,
+        record {
+          resetAccepted = reset-accepted (search b s .bridge) idle;
+          resumeAccepted = resume-accepted (command (0xB4 ∷ []) (search b s .bridge)) (reset-done (search b s .bridge) idle);
+          selects = resumed-last b (l .0) (l .1) (l .2);
+        },
+      )
 
   sound : Sound (s .line)
   sound = reached-sound r

@@ -7,6 +7,7 @@
 --   idsAt s            the IDs on the line behind s, in the order in which they came
 --   afterResume s      s after a 1-Wire Reset and a Resume, each given its time
 --   Resumed x l        of the probes of the line l the one with the ID x is selected, and all others are deaf
+--   Resumes x s        from the state s on a 1-Wire Reset and a Resume are accepted, and lead there
 --   Demand run s       what has to hold of every search `run` from the state s on
 --   Meets run          the demand, of every state that calls reach
 use Prim.Native.Nat.{ℕ, _*_, _≤_, _<_, min, max}
@@ -22,7 +23,7 @@ use Rattle.probe.specs.Probe.{digit}
 use Rattle.line.specs.declared.Line.{Line}
 use Rattle.line.specs.Line.{fitted, idsOf, fitNumber}
 use Rattle.bridge.specs.declared.Bridge.{Bridge}
-use Rattle.bridge.specs.Bridge.{command, afterFitting}
+use Rattle.bridge.specs.Bridge.{writeNumber, command, afterFitting}
 use Rattle.bridge.specs.Reached.{Bytes, Reached}
 use Rattle.search.specs.declared.Answer.{Answer}
 use Rattle.search.specs.Search.{answerNumber, answerValues, listOf}
@@ -53,6 +54,11 @@ pub record Resumed (x : ℕ) (l : Line) : Type 0 where
   pub there : Among x (idsOf l)
   pub only : (p : Probe) → Among p (fitted l) → p .condition ≡ cond (eqb (p .id) x) Selected Deaf
 
+pub record Resumes (x : ℕ) (s : Bridge) : Type 0 where
+  pub resetAccepted : writeNumber (0xB4 ∷ []) s ≡ 0
+  pub resumeAccepted : writeNumber (0xA5 ∷ 0xA5 ∷ []) (command (0xB4 ∷ []) s) ≡ 0
+  pub selects : Resumed x (afterResume s .line)
+
 -- n is the number of IDs on the line.
 pub record Demand (run : Search) (s : Bridge) : Type 0 where
   -- At most 64 probes.
@@ -61,6 +67,8 @@ pub record Demand (run : Search) (s : Bridge) : Type 0 where
   pub order : List ℕ
   pub ordered : InOrder (idsAt s) order
   pub unique : (l : List ℕ) → InOrder (idsAt s) l → l ≡ order
+  -- It answers, whatever it is asked.
+  pub some : (b : ℕ) (d : List ℕ) → (o : Outcome) × run s b d o
   -- Allowed b passes, with room for 8 × the smaller of b and 64 bytes, it is done and not refused.
   pub done : (b : ℕ) (d : List ℕ) (o : Outcome) → Done run s b d o → answerNumber (o .answer) ≡ 0
   -- It lists the first of the n IDs in search order, as many as the smaller of b and n; the bytes behind them stay.
@@ -77,7 +85,7 @@ pub record Demand (run : Search) (s : Bridge) : Type 0 where
   -- Fitting one more probe leaves all others in their order in the complete list.
   pub fitting : (x : List ℕ) → Bytes x → length x ≡ 8 → fitNumber x (s .line) ≡ 0 → (b : ℕ) (d e : List ℕ) (o q : Outcome) → length (idsAt s) < b → Done run s b d o → Done run (afterFitting x s) b e q → (p : List ℕ) × (r : List ℕ) × (bytesListed q ≡ listOf p ++ (x ++ listOf r)) × (bytesListed o ≡ listOf p ++ listOf r)
   -- If anything was listed, a 1-Wire reset and then Resume select only the last one listed.
-  pub resume : (b : ℕ) (d : List ℕ) (o : Outcome) → Done run s b d o → 0 < length (bytesListed o) → (p : List ℕ) × (x : ℕ) × (bytesListed o ≡ listOf (p ++ x ∷ [])) × Resumed x (afterResume (o .bridge) .line)
+  pub resume : (b : ℕ) (d : List ℕ) (o : Outcome) → Done run s b d o → 0 < length (bytesListed o) → (p : List ℕ) × (x : ℕ) × (bytesListed o ≡ listOf (p ++ x ∷ [])) × Resumes x (o .bridge)
   -- The state afterwards is one that calls reach, with the same probes on the line; and so after the Resume.
   pub reached : (b : ℕ) (d : List ℕ) (o : Outcome) → run s b d o → Reached (o .bridge)
   pub kept : (b : ℕ) (d : List ℕ) (o : Outcome) → run s b d o → (idsAt (o .bridge) ≡ idsAt s) × (idsAt (afterResume (o .bridge)) ≡ idsAt s)

@@ -1,7 +1,7 @@
 -- Every wrong version is refuted.
 use Rattle.refuted.specs.Refuted.{Refuted}
 use Rattle.refuted.proofs.Steps.{step-refuses, reader-refuses, status-fixed, write-lazy, time-lazy, rst-cleared, zero-written, triplet, crc-plain}
-use Rattle.refuted.proofs.Searches.{ours, rules, search-refuses, list-fixed, line-left, passes-made-up, passes-listed, numbers, one-noted, list-again}
+use Rattle.refuted.proofs.Searches.{ours, rules, search-refuses, list-fixed, line-left, state-left, passes-made-up, passes-listed, numbers, one-noted, list-again}
 
 pub refuted : Refuted
 refuted =
@@ -17,6 +17,7 @@ refuted =
       writeLazy = write-lazy;
       timeLazy = time-lazy;
       lineLeft = line-left;
+      stateLeft = state-left;
       passesMadeUp = passes-made-up;
       passesListed = passes-listed;
       numbers = numbers;

@@ -14,7 +14,6 @@ use lib.ListN.{length, getD, take, drop, replicate, length-append}
 use lib.Seq.{getD-at}
 use Rattle.checksum.specs.Register.{crc8Of, crcFrom, entered, shifts, shifted, taps8, taps}
 use Rattle.identity.specs.Identity.{numberOf, bitOf, crcRight, familyOf, refusalOf}
-use Rattle.probe.specs.declared.Condition.{Condition}
 use Rattle.probe.specs.declared.Condition.the-variants.{Deaf, Selected}
 use Rattle.probe.specs.declared.Probe.{Probe}
 use Rattle.probe.specs.Probe.{digit, sends, sendsIn, sendsSearching, took, tookIn, tookCode, tookSearching, obeyed}
@@ -34,13 +33,13 @@ use Rattle.search.specs.declared.Answer.the-variants.{Listed, Refused}
 use Rattle.search.specs.Search.{answerValues, bytesFrom, listOf}
 use Rattle.search.proofs.Call.{short, done}
 use Rattle.search.proofs.Bytes.{length-listOf, getD-listOf}
-use Rattle.enumeration.specs.Order.{Among, InOrder}
+use Rattle.enumeration.specs.Order.{InOrder}
 use Rattle.paper.specs.Paper.{a, b, c, withOne}
 use Rattle.paper.proofs.Paper.{paper}
 use Rattle.demand.specs.Demand.{Outcome, Search, Done, bytesListed, idsAt, Resumed, Meets}
 use Rattle.demand.proofs.Search.{never-silent}
 use Rattle.demand.proofs.Demand.{outcome, outcome-path, Exactly, exact, fewer}
-use Rattle.refuted.specs.Versions.{Finding, outcomeWith, callOf, alwaysRefuses, fixedList, firstPassOnly, passesOf, passesAsListed, inserted, ascending, sortedAsNumbers, tripledBy, walkedBy, searchedBy, searchBy, notesOne, startsAgain}
+use Rattle.refuted.specs.Versions.{outcomeWith, callOf, alwaysRefuses, fixedList, firstPassOnly, passesOf, passesAsListed, inserted, ascending, sortedAsNumbers, tripledBy, walkedBy, searchedBy, searchBy, notesOne, onceMore, startsAgain}
 
 -- ---- the frame
 
@@ -71,19 +70,19 @@ same-outcome s r n d = go (decLe (8 * min n 64) (length d))
         ∙ sym (outcome-path (w .answer) (w .state) (w .buffer))
 
 pub ours : Meets (callOf search)
-ours = fewer (callOf search) Exactly (λ s r n d o e. e ∙ same-outcome s r n d) exact
+ours = fewer (callOf search) Exactly (λ s n d. (outcomeWith search s n d, refl)) (λ s r n d o e. e ∙ same-outcome s r n d) exact
 
--- ---- the two rules
+-- ---- the rule of what is noted
 
-walked-by : (n k i : ℕ) (q : Conflict) (w : Walk) → walkedBy noted continued n k i q w ≡ walked n k i q w
+walked-by : (n k i : ℕ) (q : Conflict) (w : Walk) → walkedBy noted n k i q w ≡ walked n k i q w
 unfolding walkedBy walked tripledBy tripled tookTriplet
 walked-by zero k i q w = refl
-walked-by (suc n) k i q w = walked-by n (suc k) i q (tripledBy noted continued i q k w)
+walked-by (suc n) k i q w = walked-by n (suc k) i q (tripledBy noted i q k w)
 
-searched-by : (n i : ℕ) (q : Conflict) (s : Bridge) → searchedBy noted continued n i q s ≡ searched n i q s
+searched-by : (n i : ℕ) (q : Conflict) (s : Bridge) → searchedBy noted n i q s ≡ searched n i q s
 unfolding searchedBy searched passed
 searched-by zero i q s = refl
-searched-by (suc n) i q s = go (walkedBy noted continued 64 0 i q start) (walked-by 64 0 i q start) (searched-by n)
+searched-by (suc n) i q s = go (walkedBy noted 64 0 i q start) (walked-by 64 0 i q start) (searched-by n)
   where
     r : Bridge
     r = command (0xB4 ∷ []) s
@@ -91,12 +90,12 @@ searched-by (suc n) i q s = go (walkedBy noted continued 64 0 i q start) (walked
     start : Walk
     start = begun (command (0xA5 ∷ 0xF0 ∷ []) r)
 
-    go : (w : Walk) → w ≡ walked 64 0 i q start → ((i : ℕ) (q : Conflict) (s : Bridge) → searchedBy noted continued n i q s ≡ searched n i q s) → cond (r .ppd) (cond (w .silent) (silenced (w .bridge)) (continued (w .conflict) w (searchedBy noted continued n (w .id) (w .conflict) (w .bridge)))) (absent r) ≡ searched (suc n) i q s
+    go : (w : Walk) → w ≡ walked 64 0 i q start → ((i : ℕ) (q : Conflict) (s : Bridge) → searchedBy noted n i q s ≡ searched n i q s) → cond (r .ppd) (cond (w .silent) (silenced (w .bridge)) (continued (w .conflict) w (searchedBy noted n (w .id) (w .conflict) (w .bridge)))) (absent r) ≡ searched (suc n) i q s
     go w e rest =
         ap (λ (t : Result). cond (r .ppd) (cond (w .silent) (silenced (w .bridge)) (continued (w .conflict) w t)) (absent r)) (rest (w .id) (w .conflict) (w .bridge))
         ∙ ap (λ (v : Walk). cond (r .ppd) (cond (v .silent) (silenced (v .bridge)) (continued (v .conflict) v (searched n (v .id) (v .conflict) (v .bridge)))) (absent r)) e
 
-pub rules : (n : ℕ) (s : Bridge) → searchBy noted continued n s ≡ search n s
+pub rules : (n : ℕ) (s : Bridge) → searchBy noted n s ≡ search n s
 unfolding searchBy search
 rules zero s = refl
 rules (suc n) s = searched-by (suc n) 0 Nowhere (command (0xF0 ∷ []) s)
@@ -180,14 +179,14 @@ room n = replicate (8 * n) 0
 
 -- ---- the search that always refuses
 
-pub search-refuses : (k : ℕ) → Meets (alwaysRefuses k) → ⊥
-search-refuses k meets =
-    let e : _≡_ {A = ℕ} 0 3 = ap length (meets powerOn on .values 1 (room 1) (record { answer = Refused k; bridge = powerOn; list = room 1 }) (refl, lit≤ tt)) in
+pub search-refuses : (f : Bridge → ℕ → List ℕ → ℕ) → Meets (alwaysRefuses f) → ⊥
+search-refuses f meets =
+    let e : _≡_ {A = ℕ} 0 3 = ap length (meets powerOn on .values 1 (room 1) (record { answer = Refused (f powerOn 1 (room 1)); bridge = powerOn; list = room 1 }) (refl, lit≤ tt)) in
     omega arith
 
 -- ---- a fixed list: on the line of A and on the line of C it lists the same
 
-pub list-fixed : (l : List ℕ) → Meets (callOf (fixedList l)) → ⊥
+pub list-fixed : (l : ℕ → List ℕ) → Meets (callOf (fixedList l)) → ⊥
 unfolding outcomeWith all listOf bytesFrom numberOf
 list-fixed l meets =
     let due-a = list-due (callOf (fixedList l)) meets (withOne a) (one-reached a refl refl) (numberOf a ∷ []) (ids-one a sound-a) (numberOf a ∷ []) (alone (numberOf a)) 1 (room 1) (outcomeWith (fixedList l) (withOne a) 1 (room 1)) (refl, lit≤ tt) in
@@ -271,10 +270,28 @@ line-left meets =
     let first = bytes-due (callOf search) ours 1 (room 1) q (refl, lit≤ tt) in
     let filled = meets three three-reached .resume 2 (room 2) o (refl, lit≤ tt) (omega (arith, ap length listed)) in
     let walked = ours three three-reached .resume 1 (room 1) q (refl, lit≤ tt) (omega (arith, ap length first)) in
-    let same = resumed-one (filled .1) (walked .1) _ (filled .3) (walked .3) in
+    let same = resumed-one (filled .1) (walked .1) _ (filled .3 .selects) (walked .3 .selects) in
     let second : 0x19 ≡ filled .1 % 256 = ap (λ (v : List ℕ). getD v 8 0) (sym listed) ∙ last-byte (filled .0) (filled .1) 1 _ (filled .2) (ap length listed) in
     let one : 0x02 ≡ walked .1 % 256 = ap (λ (v : List ℕ). getD v 0 0) (sym first) ∙ last-byte (walked .0) (walked .1) 0 _ (walked .2) (ap length first) in
     omega arith
+
+-- ---- nor is its closing state that of the commands
+
+pub state-left : ((n : ℕ) (s : Bridge) → Reached s → firstPassOnly n s .bridge ≡ search n s .bridge) → ⊥
+unfolding outcomeWith
+state-left h =
+    line-left
+    (fewer (callOf firstPassOnly) (callOf search) (λ s n d. (outcomeWith firstPassOnly s n d, refl))
+    (λ s r n d o e. e ∙ ap (λ (t : Bridge). closed s n d t) (h n s r)) ours)
+  where
+    closed : Bridge → ℕ → List ℕ → Bridge → Outcome
+    closed s n d t =
+        cond (ltb (length d) (8 * min n 64)) (record { answer = Refused 9; bridge = s; list = d })
+        (record {
+          answer = Listed (length (search n s .ids)) (search n s .passes) (search n s .complete);
+          bridge = t;
+          list = listOf (search n s .ids) ++ drop (length (listOf (search n s .ids))) d;
+        })
 
 -- ---- a conflict noted where 1 was taken: after C and A, of two, it is not complete
 
@@ -287,9 +304,25 @@ one-noted meets =
 
 -- ---- a pass more after the last: A is listed twice
 
+twice : (r : Result) → length (r .ids) ≡ 1 → r .passes ≡ 1 → digit (r .complete) ≡ 1 → length (onceMore 2 r .ids) ≡ 2
+twice r i p q = go (r .complete) q ∙ length-append (r .ids) _ ∙ ap (λ (n : ℕ). n + 1) i
+  where
+    w : Walk
+    w = passed 0 Nowhere (command (0xB4 ∷ []) (r .bridge))
+
+    more : Result
+    more = record { ids = r .ids ++ w .id ∷ []; passes = suc (r .passes); complete = true; silent = r .silent; bridge = w .bridge }
+
+    go : (t : Bool) → digit t ≡ 1 → length (cond (t && (ltb (r .passes) 2 && ltb 0 (length (r .ids)))) more r .ids) ≡ length (r .ids ++ w .id ∷ [])
+    go true e = ap₂ (λ (m n : ℕ). length (cond (ltb m 2 && ltb 0 n) more r .ids)) p i
+    go false e = absurd (omega (arith, e))
+
 pub list-again : Meets (callOf startsAgain) → ⊥
-unfolding outcomeWith searchBy searchedBy walkedBy tripledBy tookTriplet noted command afterTime finishedOf afterWrite writeNumber bytesOf takenWhileBusy goodParameter accepted obeyed finishedReset finishedWrite finishedTriplet present resetAll level slot slots onFitted all sends sendsIn sendsSearching took tookIn tookCode tookSearching bitOf direction powerOn bare afterFitting afterFit fitNumber placeNumber isFitted idsOf fitted any withProbe refusalOf crcRight familyOf crc8Of crcFrom entered shifts shifted taps8 taps numberOf
+unfolding outcomeWith all
 list-again meets =
-    let due = values-due (callOf startsAgain) meets (withOne a) (one-reached a refl refl) (numberOf a ∷ []) (ids-one a sound-a) 2 (room 2) (outcomeWith startsAgain (withOne a) 2 (room 2)) (refl, lit≤ tt) in
-    let e : _≡_ {A = ℕ} 2 1 = ap (λ (v : List ℕ). getD v 0 0) due in
+    let one = one-reached a refl refl in
+    let due = values-due (callOf startsAgain) meets (withOne a) one (numberOf a ∷ []) (ids-one a sound-a) 2 (room 2) (outcomeWith startsAgain (withOne a) 2 (room 2)) (refl, lit≤ tt) in
+    let right = values-due (callOf search) ours (withOne a) one (numberOf a ∷ []) (ids-one a sound-a) 2 (room 2) (outcomeWith search (withOne a) 2 (room 2)) (refl, lit≤ tt) in
+    let once : length (onceMore 2 (search 2 (withOne a)) .ids) ≡ 1 = ap (λ (v : List ℕ). getD v 0 0) due in
+    let both = twice (search 2 (withOne a)) (ap (λ (v : List ℕ). getD v 0 0) right) (ap (λ (v : List ℕ). getD v 1 0) right) (ap (λ (v : List ℕ). getD v 2 0) right) in
     omega arith

@@ -1,15 +1,17 @@
 -- The wrong steps and packets: one case for each, which computes.
 use Prim.Native.Nat.{ℕ, suc}
-use mathlib.Core.Bool.{Bool, true, false, true≢false, false≢true}
+use mathlib.Core.Bool.{Bool, true, false, false≢true}
 use mathlib.Core.List.{List, [], _∷_}
-use mathlib.Core.Path.{_≡_, refl, sym, ap, _∙_}
+use mathlib.Core.Path.{_≡_, refl, ap}
 use native.Mathlib.Omega.{arith}
 use lib.Dec.{lit<}
 use lib.ListN.{length, getD}
 use Rattle.checksum.specs.Register.{crc16Of, crcFrom, entered, shifts, shifted, taps, taps16}
 use Rattle.line.specs.Line.{bare, fitted, all, level, slot, onFitted}
 use Rattle.bridge.specs.declared.Bridge.{Bridge}
-use Rattle.bridge.specs.Bridge.{powerOn, statusOf, busy, bytesOf, takenWhileBusy, goodParameter, writeNumber, afterWrite, accepted, finishedReset, finishedTriplet, finishedOf, afterTime, chosen}
+use Rattle.bridge.specs.declared.Pending.the-variants.{Reset, Triplet}
+use Rattle.bridge.specs.declared.Pointer.the-variants.{Status}
+use Rattle.bridge.specs.Bridge.{powerOn, statusOf, readOf, busy, bytesOf, goodParameter, writeNumber, afterWrite, accepted, finishedReset, finishedTriplet, finishedOf, afterTime, chosen}
 use Rattle.bridge.specs.Reached.{Bytes, Reached}
 use Rattle.bridge.specs.Reached.Reached.{on, write}
 use Rattle.packet.specs.Request.{Request, read, bodyOf, invertedOf, sealOf, packetOf}
@@ -21,18 +23,25 @@ use Rattle.refuted.specs.Versions.{clearsRst, zeroAfterOnes, tripletBy, 
 
 -- ---- steps
 
-pub step-refuses : (k : ℕ) → ((x : List ℕ) → Bytes x → (s : Bridge) → Reached s → writeNumber x s ≡ suc k) → ⊥
+pub step-refuses : (f : List ℕ → Bridge → ℕ) → ((x : List ℕ) → Bytes x → (s : Bridge) → Reached s → writeNumber x s ≡ suc (f x s)) → ⊥
 unfolding writeNumber bytesOf powerOn goodParameter
-step-refuses k h =
-    let e : 0 ≡ suc k = h (0xF0 ∷ []) (bytes-one 0xF0 (lit< tt)) powerOn on in
+step-refuses f h =
+    let e : 0 ≡ suc (f (0xF0 ∷ []) powerOn) = h (0xF0 ∷ []) (bytes-one 0xF0 (lit< tt)) powerOn on in
     omega arith
 
--- 18h at power-on, 08h after a configuration was written
-pub status-fixed : (v : ℕ) → ((s : Bridge) → Reached s → statusOf s ≡ v) → ⊥
-unfolding statusOf afterWrite writeNumber bytesOf powerOn goodParameter accepted
+-- a 1-Wire Reset that waits for time to pass
+abbrev pending : Bridge
+pending = afterWrite (0xB4 ∷ []) powerOn
+
+pending-reached : Reached pending
+pending-reached = write (0xB4 ∷ []) (bytes-one 0xB4 (lit< tt)) on
+
+-- 18h at power-on, 19h while a reset is pending
+pub status-fixed : (v : ℕ) → ((s : Bridge) → Reached s → s .pointer ≡ Status → readOf s ≡ v) → ⊥
+unfolding readOf statusOf afterWrite writeNumber bytesOf powerOn goodParameter accepted
 status-fixed v h =
-    let on-power : 0x18 ≡ v = h powerOn on in
-    let configured : 0x08 ≡ v = h (afterWrite (0xD2 ∷ 0xF0 ∷ []) powerOn) (write (0xD2 ∷ 0xF0 ∷ []) (bytes-two 0xD2 0xF0 (lit< tt) (lit< tt)) on) in
+    let free : 0x18 ≡ v = h powerOn on refl in
+    let busy : 0x19 ≡ v = h pending pending-reached refl in
     omega arith
 
 -- a configuration that is written clears RST
@@ -42,21 +51,21 @@ write-lazy h =
     false≢true
     (ap (λ (s : Bridge). s .rst) (h (0xD2 ∷ 0xF0 ∷ []) (bytes-two 0xD2 0xF0 (lit< tt) (lit< tt)) powerOn on))
 
--- a 1-Wire Reset is pending until time passes
 pub time-lazy : ((s : Bridge) → Reached s → afterTime s ≡ s) → ⊥
 unfolding afterTime finishedOf finishedReset afterWrite writeNumber bytesOf powerOn goodParameter accepted
-time-lazy h =
-    false≢true
-    (ap busy (h (afterWrite (0xB4 ∷ []) powerOn) (write (0xB4 ∷ []) (bytes-one 0xB4 (lit< tt)) on)))
+time-lazy h = false≢true (ap busy (h pending pending-reached))
 
-pub rst-cleared : ((s : Bridge) → Reached s → clearsRst s ≡ finishedReset s) → ⊥
-unfolding finishedReset powerOn
-rst-cleared h = false≢true (ap (λ (s : Bridge). s .rst) (h powerOn on))
+pub rst-cleared : ((s : Bridge) → Reached s → s .pending ≡ Reset → clearsRst s ≡ afterTime s) → ⊥
+unfolding afterTime finishedOf finishedReset afterWrite writeNumber bytesOf powerOn goodParameter accepted
+rst-cleared h = false≢true (ap (λ (s : Bridge). s .rst) (h pending pending-reached refl))
 
 -- with no probe on the line both levels are 1
-pub zero-written : ((s : Bridge) → Reached s → (d : Bool) → tripletBy zeroAfterOnes d s ≡ finishedTriplet d s) → ⊥
-unfolding finishedTriplet powerOn bare level slot onFitted fitted all
-zero-written h = false≢true (ap (λ (s : Bridge). s .dir) (h powerOn on true))
+pub zero-written : ((s : Bridge) → Reached s → (d : Bool) → s .pending ≡ Triplet d → tripletBy zeroAfterOnes d s ≡ afterTime s) → ⊥
+unfolding afterTime finishedOf finishedTriplet afterWrite writeNumber bytesOf powerOn goodParameter accepted bare level slot onFitted fitted all
+zero-written h =
+    false≢true
+    (ap (λ (s : Bridge). s .dir)
+    (h (afterWrite (0x78 ∷ 0 ∷ []) powerOn) (write (0x78 ∷ 0 ∷ []) (bytes-two 0x78 0 (lit< tt) (lit< tt)) on) false refl))
 
 pub triplet : (d : Bool) (s : Bridge) → tripletBy chosen d s ≡ finishedTriplet d s
 unfolding finishedTriplet
@@ -64,9 +73,9 @@ triplet d s = refl
 
 -- ---- packets: a read, address 20h, 2 bytes
 
-pub reader-refuses : (k : ℕ) → ((p : List ℕ) → readingOf p ≡ Refused k) → ⊥
+pub reader-refuses : (f : List ℕ → ℕ) → ((p : List ℕ) → readingOf p ≡ Refused (f p)) → ⊥
 unfolding readingOf checked formOf readForm isSealed invertedOf crc16Of crcFrom entered shifts shifted taps16 taps
-reader-refuses k h =
+reader-refuses f h =
     let e : _≡_ {A = ℕ} 5 0 = ap (λ (r : Reading). length (readingValues r)) (h (0x87 ∷ 0x41 ∷ 0x02 ∷ 0xFE ∷ 0x47 ∷ [])) in
     omega arith
 

@@ -4,10 +4,12 @@ use mathlib.Core.Bool.{Bool}
 use mathlib.Core.List.{List}
 use mathlib.Core.Path.{_≡_}
 use Rattle.bridge.specs.declared.Bridge.{Bridge}
-use Rattle.bridge.specs.Bridge.{statusOf, writeNumber, afterWrite, afterTime, finishedReset, finishedTriplet, chosen}
+use Rattle.bridge.specs.declared.Pending.the-variants.{Reset, Triplet}
+use Rattle.bridge.specs.declared.Pointer.the-variants.{Status}
+use Rattle.bridge.specs.Bridge.{readOf, writeNumber, afterWrite, afterTime, finishedTriplet, chosen}
 use Rattle.bridge.specs.Reached.{Bytes, Reached}
 use Rattle.pass.specs.Pass.{noted}
-use Rattle.pass.specs.Passes.{continued, search}
+use Rattle.pass.specs.Passes.{search}
 use Rattle.packet.specs.Request.{Request, packetOf}
 use Rattle.reading.specs.declared.Reading.the-variants.{Refused}
 use Rattle.reading.specs.Reading.{readingOf}
@@ -15,23 +17,24 @@ use Rattle.demand.specs.Demand.{Meets}
 use Rattle.refuted.specs.Versions.{callOf, alwaysRefuses, fixedList, firstPassOnly, passesOf, passesAsListed, sortedAsNumbers, searchBy, notesOne, startsAgain, clearsRst, zeroAfterOnes, tripletBy, uninverted}
 
 pub record Refuted : Type 0 where
-  -- What the wrong versions are held against: the search itself meets the demand by the same frame, and the frame with two rules left open
-  -- is the search itself where they are right; so is that of the triplet.
+  -- What the wrong versions are held against: the search itself meets the demand by the same frame, and the frame that leaves a rule of the
+  -- search open is the search itself where the rule is right; so is that of the triplet.
   pub ours : Meets (callOf search)
-  pub rules : (b : ℕ) (s : Bridge) → searchBy noted continued b s ≡ search b s
+  pub rules : (b : ℕ) (s : Bridge) → searchBy noted b s ≡ search b s
   pub triplet : (d : Bool) (s : Bridge) → tripletBy chosen d s ≡ finishedTriplet d s
   -- "A search, step or packet reader that always refuses"
-  pub searchRefuses : (k : ℕ) → Meets (alwaysRefuses k) → ⊥
-  pub stepRefuses : (k : ℕ) → ((x : List ℕ) → Bytes x → (s : Bridge) → Reached s → writeNumber x s ≡ suc k) → ⊥
-  pub readerRefuses : (k : ℕ) → ((p : List ℕ) → readingOf p ≡ Refused k) → ⊥
+  pub searchRefuses : (f : Bridge → ℕ → List ℕ → ℕ) → Meets (alwaysRefuses f) → ⊥
+  pub stepRefuses : (f : List ℕ → Bridge → ℕ) → ((x : List ℕ) → Bytes x → (s : Bridge) → Reached s → writeNumber x s ≡ suc (f x s)) → ⊥
+  pub readerRefuses : (f : List ℕ → ℕ) → ((p : List ℕ) → readingOf p ≡ Refused (f p)) → ⊥
   -- "A fixed list or fixed status byte"
-  pub listFixed : (l : List ℕ) → Meets (callOf (fixedList l)) → ⊥
-  pub statusFixed : (v : ℕ) → ((s : Bridge) → Reached s → statusOf s ≡ v) → ⊥
+  pub listFixed : (l : ℕ → List ℕ) → Meets (callOf (fixedList l)) → ⊥
+  pub statusFixed : (v : ℕ) → ((s : Bridge) → Reached s → s .pointer ≡ Status → readOf s ≡ v) → ⊥
   -- "A bridge that acknowledges and does nothing"
   pub writeLazy : ((x : List ℕ) → Bytes x → (s : Bridge) → Reached s → afterWrite x s ≡ s) → ⊥
   pub timeLazy : ((s : Bridge) → Reached s → afterTime s ≡ s) → ⊥
   -- "A search that walks its first pass and fills the others .. without moving the line"
   pub lineLeft : Meets (callOf firstPassOnly) → ⊥
+  pub stateLeft : ((b : ℕ) (s : Bridge) → Reached s → firstPassOnly b s .bridge ≡ search b s .bridge) → ⊥
   -- "A made-up number of passes"
   pub passesMadeUp : (f : ℕ → ℕ) → Meets (callOf (passesOf f)) → ⊥
   pub passesListed : Meets (callOf passesAsListed) → ⊥
@@ -42,8 +45,8 @@ pub record Refuted : Type 0 where
   -- "One pass more after the last, which starts the list again"
   pub listAgain : Meets (callOf startsAgain) → ⊥
   -- "Clearing RST at a 1-Wire reset"
-  pub rstCleared : ((s : Bridge) → Reached s → clearsRst s ≡ finishedReset s) → ⊥
+  pub rstCleared : ((s : Bridge) → Reached s → s .pending ≡ Reset → clearsRst s ≡ afterTime s) → ⊥
   -- "Writing 0 after levels 1,1"
-  pub zeroWritten : ((s : Bridge) → Reached s → (d : Bool) → tripletBy zeroAfterOnes d s ≡ finishedTriplet d s) → ⊥
+  pub zeroWritten : ((s : Bridge) → Reached s → (d : Bool) → s .pending ≡ Triplet d → tripletBy zeroAfterOnes d s ≡ afterTime s) → ⊥
   -- "Sending CRC-16 uninverted"
   pub crcPlain : ((q : Request) → uninverted q ≡ packetOf q) → ⊥

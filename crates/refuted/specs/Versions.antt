@@ -1,27 +1,26 @@
 -- Wrong versions (document 01, "Slips this trade knows" and "How tight the statements are").
 --   Finding              what the passes of a search come to, allowed so many, from a state
 --   callOf find          the search whose passes come to `find`: refused with 9 where the list buffer is too short, else listed
---   alwaysRefuses k      the search that refuses with k, whatever it is asked
---   fixedList l          the search that lists the IDs l on any line
+--   alwaysRefuses f      the search that refuses whatever it is asked, with the number that f gives
+--   fixedList l          the search that, allowed b passes, lists the IDs l b on any line
 --   firstPassOnly        the search that moves the line in its first pass alone; the rest of its answer is right
 --   passesOf f           the search that tells of f b passes when it is allowed b
 --   passesAsListed       the search that tells of as many passes as it lists IDs
 --   sortedAsNumbers      the search that lists IDs by their size as numbers
---   searchBy note follow the search with another rule of what is noted at a bit, and of what follows a pass
+--   searchBy note        the search with another rule of what is noted at a bit
 --   notesOne             the search that notes a conflict where 1 was taken too
---   startsAgain          the search that takes a pass more after the last one
+--   startsAgain          the search that takes one pass more after the last, where it is allowed
 --   clearsRst s          a finished 1-Wire Reset that clears RST
 --   zeroAfterOnes        the bit of a triplet, 0 after levels 1,1
 --   tripletBy choose     the triplet with another rule of its bit
 --   uninverted q         the packet with its CRC-16 as the register has it
-use Prim.Native.Nat.{ℕ, zero, suc, _+_, _*_, _/_, _%_, _^_, min}
-use mathlib.Core.Bool.{Bool, true, false, cond}
+use Prim.Native.Nat.{ℕ, zero, suc, _+_, _*_, _/_, _%_, min}
+use mathlib.Core.Bool.{Bool, true, false, cond, _&&_}
 use mathlib.Core.List.{List, [], _∷_, _++_}
 use mathlib.Core.Path.{_≡_}
 use lib.Dec.{leb, ltb}
 use lib.ListN.{length, take, drop}
 use Rattle.checksum.specs.Register.{crc16Of}
-use Rattle.probe.specs.Probe.{digit}
 use Rattle.line.specs.Line.{level, slot, present, resetAll}
 use Rattle.bridge.specs.declared.Bridge.{Bridge}
 use Rattle.bridge.specs.declared.Pending.the-variants.{Nothing}
@@ -29,8 +28,8 @@ use Rattle.bridge.specs.Bridge.{command, finished}
 use Rattle.pass.specs.declared.Conflict.{Conflict}
 use Rattle.pass.specs.declared.Conflict.the-variants.{Nowhere, At}
 use Rattle.pass.specs.declared.Walk.{Walk}
-use Rattle.pass.specs.Pass.{direction, tripletByte, noted, tookTriplet, begun}
-use Rattle.pass.specs.Passes.{Result, absent, exhausted, silenced, before, continued, search}
+use Rattle.pass.specs.Pass.{direction, tripletByte, tookTriplet, begun, passed}
+use Rattle.pass.specs.Passes.{Result, absent, exhausted, silenced, continued, search}
 use Rattle.search.specs.declared.Answer.the-variants.{Listed, Refused}
 use Rattle.search.specs.Search.{listOf}
 use Rattle.packet.specs.Request.{Request, bodyOf}
@@ -41,7 +40,8 @@ use Rattle.demand.specs.Demand.{Outcome, Search, idsAt}
 abbrev pub Finding : Type 0
 Finding = ℕ → Bridge → Result
 
--- What the call makes of a finding, as the library's does: the bound of the list buffer, the list at its front, the bytes behind it.
+-- What the call makes of a finding, as the library's does (but for number 10, which never comes): the bound of the list buffer, the list
+-- at its front, the bytes behind it.
 unfoldable pub outcomeWith : Finding → Bridge → ℕ → List ℕ → Outcome
 outcomeWith find s b d =
     let r = find b s in
@@ -57,14 +57,14 @@ abbrev pub callOf : Finding → Search
 callOf find s b d o = o ≡ outcomeWith find s b d
 
 -- A search that always refuses.
-abbrev pub alwaysRefuses : ℕ → Search
-alwaysRefuses k s b d o = o ≡ record { answer = Refused k; bridge = s; list = d }
+abbrev pub alwaysRefuses : (Bridge → ℕ → List ℕ → ℕ) → Search
+alwaysRefuses f s b d o = o ≡ record { answer = Refused (f s b d); bridge = s; list = d }
 
 -- A fixed list.
-abbrev pub fixedList : List ℕ → Finding
+abbrev pub fixedList : (ℕ → List ℕ) → Finding
 fixedList l b s =
     let r = search b s in
-    record { ids = take b l; passes = r .passes; complete = r .complete; silent = r .silent; bridge = r .bridge }
+    record { ids = l b; passes = r .passes; complete = r .complete; silent = r .silent; bridge = r .bridge }
 
 -- A search that walks its first pass and fills in the others without moving the line.
 abbrev pub firstPassOnly : Finding
@@ -109,9 +109,8 @@ sortedAsNumbers b s =
       bridge = r .bridge;
     }
 
--- A search as document 01 has it, but for two rules: what is noted at a bit, and what follows a pass. With `noted` and `continued` it is
--- the search itself.
-module _ (note : Bool → Bool → Bool → ℕ → Conflict → Conflict) (follow : Conflict → Walk → Result → Result) where
+-- A search as document 01 has it, but for one rule: what is noted at a bit. With `noted` it is the search itself.
+module _ (note : Bool → Bool → Bool → ℕ → Conflict → Conflict) where
   unfoldable pub tripledBy : ℕ → Conflict → ℕ → Walk → Walk
   tripledBy i c k w =
       let s = command (0x78 ∷ tripletByte (direction i c k) ∷ []) (w .bridge) in
@@ -133,7 +132,7 @@ module _ (note : Bool → Bool → Bool → ℕ → Conflict → Conflict) (foll
       let r = command (0xB4 ∷ []) s in
       let w = walkedBy 64 0 i c (begun (command (0xA5 ∷ 0xF0 ∷ []) r)) in
       cond (r .ppd)
-      (cond (w .silent) (silenced (w .bridge)) (follow (w .conflict) w (searchedBy b (w .id) (w .conflict) (w .bridge))))
+      (cond (w .silent) (silenced (w .bridge)) (continued (w .conflict) w (searchedBy b (w .id) (w .conflict) (w .bridge))))
       (absent r)
 
   unfoldable pub searchBy : Finding
@@ -145,14 +144,24 @@ abbrev pub anyConflict : Bool → Bool → Bool → ℕ → Conflict → Conflic
 anyConflict first second taken k c = cond first c (cond second c (At k))
 
 abbrev pub notesOne : Finding
-notesOne = searchBy anyConflict continued
+notesOne = searchBy anyConflict
 
--- One pass more after the last.
-abbrev pub goesOn : Conflict → Walk → Result → Result
-goesOn c w rest = before (w .id) rest
+-- One pass more after the last, which starts the list again: all is right but where the search is complete with a pass to spare.
+abbrev pub onceMore : ℕ → Result → Result
+onceMore b r =
+    let w = passed 0 Nowhere (command (0xB4 ∷ []) (r .bridge)) in
+    cond (r .complete && (ltb (r .passes) b && ltb 0 (length (r .ids))))
+    (record {
+      ids = r .ids ++ w .id ∷ [];
+      passes = suc (r .passes);
+      complete = true;
+      silent = r .silent;
+      bridge = w .bridge;
+    })
+    r
 
 abbrev pub startsAgain : Finding
-startsAgain = searchBy noted goesOn
+startsAgain b s = onceMore b (search b s)
 
 -- ---- bridges
 
