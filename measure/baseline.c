@@ -2,28 +2,29 @@
 
 #include <string.h>
 
-static uint8_t table8[256];
 static uint16_t table16[256];
 
 void baseline_start(void)
 {
     for (unsigned i = 0; i < 256; i++) {
-        unsigned crc8 = i, crc16 = i;
-        for (int bit = 0; bit < 8; bit++) {
-            crc8 = crc8 & 1 ? (crc8 >> 1) ^ 0x8C : crc8 >> 1;
-            crc16 = crc16 & 1 ? (crc16 >> 1) ^ 0xA001 : crc16 >> 1;
-        }
-        table8[i] = (uint8_t)crc8;
-        table16[i] = (uint16_t)crc16;
+        unsigned crc = i;
+        for (int bit = 0; bit < 8; bit++)
+            crc = crc & 1 ? (crc >> 1) ^ 0xA001 : crc >> 1;
+        table16[i] = (uint16_t)crc;
     }
 }
 
 uint8_t baseline_crc8(const uint8_t *bytes, size_t length)
 {
-    uint8_t crc = 0;
-    for (size_t i = 0; i < length; i++)
-        crc = table8[crc ^ bytes[i]];
-    return crc;
+    unsigned crc = 0;
+    for (size_t i = 0; i < length; i++) {
+        unsigned rest = bytes[i];
+        for (int bit = 0; bit < 8; bit++) {
+            crc = (crc ^ rest) & 1 ? (crc >> 1) ^ 0x8C : crc >> 1;
+            rest >>= 1;
+        }
+    }
+    return (uint8_t)crc;
 }
 
 uint16_t baseline_crc16(const uint8_t *bytes, size_t length)

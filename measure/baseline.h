@@ -1,6 +1,7 @@
 /*
- * The same checksums and packets in C, for measure/library alone: a byte at a time from a table of
- * 256 entries, as in the library. It shares nothing with the library.
+ * The same checksums and packets in C, for measure/library alone. As in the library, the CRC-8 goes
+ * a bit at a time and the CRC-16 a byte at a time from a table of 256 entries. It shares nothing
+ * with the library.
  */
 #ifndef BASELINE_H
 #define BASELINE_H
@@ -8,7 +9,7 @@
 #include <stddef.h>
 #include <stdint.h>
 
-/* Fills both tables; call it before anything else. */
+/* Fills the table; call it before anything else. */
 void baseline_start(void);
 
 uint8_t baseline_crc8(const uint8_t *bytes, size_t length);

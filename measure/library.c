@@ -184,7 +184,7 @@ static void print_times(void)
         double ratio = compare(rows[i].what, rows[i].length, rows[i].work);
         lowest = ratio < lowest ? ratio : lowest;
     }
-    printf("lowest ratio %.2f (baseline time / library time; aim 0.95 or more)\n", lowest);
+    printf("lowest ratio %.2f (baseline time / library time; aim 0.95 or more, but for the CRC-8)\n", lowest);
 }
 
 static unsigned long number(const char *word)

@@ -3,6 +3,8 @@
 --   shifts-linear    the register of a sum is the sum of the registers
 --   shifts-high      a number that stands above the bits that move out comes down unchanged
 --   entered-table    the register after a byte, by the register that the table has
+--   shift-odd        a bit that differs from the one that falls out; shift-even, one that does not
+--   Left             the bits of a byte that are still to go in, a 1 above them; left-next, one more has gone in; left-over, all have
 --   crcFrom-next     one byte more of a slice; crcFrom-done, none left
 --   entered-lt, crcFrom-lt, crc16Of-lt    a register of w bits stays one
 use mathlib.Core.Path.{_≡_, refl, sym, ap, ap₂, _∙_}
@@ -133,6 +135,48 @@ entered-table p r x h =
   where
     x-low : x % 256 ≡ x
     x-low = omega arith
+
+-- ---- a byte, bit by bit
+
+pub shift-odd : (p r b : ℕ) → (r + b) % 2 ≡ 1 → shifted p r b ≡ bitXor (r / 2) p
+shift-odd p r b e = shifted-gate p r b ∙ ap (bitXor (r / 2)) (gate-odd p (r + b) e)
+
+pub shift-even : (p r b : ℕ) → (r + b) % 2 ≡ 0 → shifted p r b ≡ r / 2
+shift-even p r b e = shifted-gate p r b ∙ ap (bitXor (r / 2)) (gate-even p (r + b) e) ∙ xor-zero-r (r / 2)
+
+shifted-parity : (p r b c : ℕ) → b % 2 ≡ c % 2 → shifted p r b ≡ shifted p r c
+shifted-parity p r b c e =
+    shifted-gate p r b ∙ ap (bitXor (r / 2)) (gate-parity p (r + b) (r + c) (omega arith)) ∙ sym (shifted-gate p r c)
+
+-- What is left of a byte is x: n bits and a 1 above them. With these n in the register r too, it is w.
+pub record Left (p w r x : ℕ) : Type 0 where
+  pub n : ℕ
+  pub bits : ℕ
+  pub below : bits < 2 ^ n
+  pub marked : x ≡ 2 ^ n + bits
+  pub comes : shifts p n r bits ≡ w
+
+pub left-next : (p w r x q : ℕ) → Left p w r x → (x ≡ 1 → ⊥) → q ≡ shifted p r x → Left p w q (x / 2)
+unfolding shifts
+left-next p w r x q l h e = go (l .n) (l .bits) (l .below) (l .marked) (l .comes)
+  where
+    go : (n y : ℕ) → y < 2 ^ n → x ≡ 2 ^ n + y → shifts p n r y ≡ w → Left p w q (x / 2)
+    go zero y b m c = absurd (h (omega (arith, m, lt-one b)))
+    go (suc n) y b m c = record {
+      n = n;
+      bits = y / 2;
+      below = omega (arith, pow-suc 2 n, b);
+      marked = omega (arith, pow-suc 2 n, m);
+      comes = ap (λ (k : ℕ). shifts p n k (y / 2)) (e ∙ shifted-parity p r x (y % 2) (omega (arith, pow-suc 2 n, m))) ∙ c;
+    }
+
+pub left-over : (p w r x : ℕ) → Left p w r x → x ≡ 1 → r ≡ w
+unfolding shifts
+left-over p w r x l e = go (l .n) (l .marked) (l .comes)
+  where
+    go : (n : ℕ) → x ≡ 2 ^ n + l .bits → shifts p n r (l .bits) ≡ w → r ≡ w
+    go zero m c = c
+    go (suc n) m c = absurd (omega (arith, pow-suc 2 n, pow-pos n, m, e))
 
 -- ---- a slice, byte by byte
 

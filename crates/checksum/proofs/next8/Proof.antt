@@ -1,35 +1,40 @@
--- `checksum::next8` meets its contract: the entry is the table's rule at the sum of register and byte, and nothing stands above a byte.
-use mathlib.Core.Path.{_≡_, sym, _∙_}
-use Prim.Native.Nat.{ℕ, _%_, _/_, _<_}
+-- `checksum::next8` meets its contract: the register, with the bits that are left still to go in, comes to that after the whole byte.
+use mathlib.Core.Path.{refl}
 use native.Mathlib.Omega.{arith}
-use lib.Bits.{bitXor, xor-lt, xor-zero-r}
+use borrow.Author.Needs.{needs}
 use Rattle.checksum.specs.Register.{entered, taps8}
-use Rattle.checksum.proofs.Table.{entry}
-use Rattle.checksum.proofs.Shift.{entered-table}
+use Rattle.checksum.proofs.Shift.{Left, left-next, left-over}
 use Rattle.checksum.proofs.next8.Statement.{statement}
 use Rattle.checksum.proofs.next8.Tie as tie
 
-place : (c : tie.Start) → bitXor (c .args .register) (c .args .byte) < 256
-place c = xor-lt 8 (c .args .register) (c .args .byte) (omega arith) (omega arith)
+abbrev Inv-loop : tie.InvT-loop
+Inv-loop register byte after₀ rest₀ after rest = Left taps8 (entered taps8 register byte) after rest
 
-cast-result : tie.Need-cast-result
-cast-result c = omega (arith, place c)
+abbrev μ-loop : tie.MeasureT-loop
+μ-loop register byte after₀ rest₀ after rest = rest
 
-element-copy-out-result : tie.Need-element-copy-out-result
-element-copy-out-result c = place c
+add-rest : tie.Need-add-rest Inv-loop μ-loop
+add-rest c = omega arith
 
--- a register of one byte: nothing comes down from above it
-narrow : (r x : ℕ) → r < 256 → x < 256 → entered taps8 0 (bitXor r x) ≡ entered taps8 r x
-narrow r x h b =
-    let low : r % 256 ≡ r = omega arith in
-    let high : r / 256 ≡ 0 = omega arith in
-    sym (entered-table taps8 r x b ∙ simp (low, high, xor-zero-r))
+loop-holds : tie.Need-loop-holds Inv-loop μ-loop
+unfolding entered
+loop-holds c = record { n = 8; bits = c .args .byte; below = omega arith; marked = omega arith; comes = refl }
 
-returns : tie.Need-returns
+shifted8-requires : tie.Need-shifted8-requires Inv-loop μ-loop
+shifted8-requires c κs = search needs
+
+loop-less : tie.Need-loop-less Inv-loop μ-loop
+loop-less c = omega arith
+
+loop-again : tie.Need-loop-again Inv-loop μ-loop
+loop-again c =
+    let l = c .before .before .loop in
+    left-next taps8 _ (l .after) (l .rest) _ (l .inv) (c .before .loop-test .taken) (c .shifted8 .ensures)
+
+returns : tie.Need-returns Inv-loop μ-loop
 returns c =
-    let a = c .before .args in
-    entry taps8 (a .table .now) (c .before .pre) (bitXor (a .register) (a .byte)) (place (c .before))
-    ∙ narrow (a .register) (a .byte) (omega arith) (omega arith)
+    let l = c .before .loop in
+    left-over taps8 _ (l .after) (l .rest) (l .inv) (c .loop-test .left)
 
 pub next8-spec : {M : Type 1} → statement M
-next8-spec = tie.close (tie.spec cast-result element-copy-out-result returns)
+next8-spec = tie.close (tie.spec Inv-loop μ-loop add-rest loop-holds shifted8-requires loop-less loop-again returns)
