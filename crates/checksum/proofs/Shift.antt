@@ -180,13 +180,18 @@ left-over p w r x l e = go (l .n) (l .marked) (l .comes)
 
 -- ---- a slice, byte by byte
 
-pub crcFrom-next : (p r : ℕ) (s : List ℕ) (i : ℕ) → i < length s → crcFrom p (entered p r (getD s i 0)) (drop (i + 1) s) ≡ crcFrom p r (drop i s)
+-- With the bytes from i on in the register r too, it is w: so it is with one more of them in it, and with none left r is w.
+pub crcFrom-next : (p w r : ℕ) (s : List ℕ) (i q : ℕ)
+    → i < length s → crcFrom p r (drop i s) ≡ w → q ≡ entered p r (getD s i 0) → crcFrom p q (drop (i + 1) s) ≡ w
 unfolding crcFrom
-crcFrom-next p r s i h = rw (add-one, drop-cons s i 0)
+crcFrom-next p w r s i q h c e = ap (λ (k : ℕ). crcFrom p k (drop (i + 1) s)) e ∙ step ∙ c
+  where
+    step : crcFrom p (entered p r (getD s i 0)) (drop (i + 1) s) ≡ crcFrom p r (drop i s)
+    step = rw (add-one, drop-cons s i 0)
 
-pub crcFrom-done : (p r : ℕ) (s : List ℕ) (i : ℕ) → length s ≤ i → crcFrom p r (drop i s) ≡ r
+pub crcFrom-done : (p w r : ℕ) (s : List ℕ) (i : ℕ) → length s ≤ i → crcFrom p r (drop i s) ≡ w → r ≡ w
 unfolding crcFrom
-crcFrom-done p r s i h = ap (crcFrom p r) (drop-of-length-le s h)
+crcFrom-done p w r s i h c = sym (ap (crcFrom p r) (drop-of-length-le s h)) ∙ c
 
 -- ---- a register of w bits stays one
 
