@@ -38,10 +38,10 @@ static void obey(struct probe *p)
 {
     p->bit = 0;
     switch (p->code) {
-    case 0x33: p->condition = SENDING; break;
+    case 0x33: p->condition = SENDING; p->marked = 0; break;
     case 0x55: p->condition = MATCHING; p->marked = 0; break;
     case 0xF0: p->condition = SEARCHING; p->marked = 0; break;
-    case 0xCC: p->condition = SELECTED; break;
+    case 0xCC: p->condition = SELECTED; p->marked = 0; break;
     case 0xA5: p->condition = p->marked ? SELECTED : DEAF; break;
     default: p->condition = DEAF;
     }

@@ -122,6 +122,29 @@ def search(source):
     return events
 
 
+def rom_command(source, code, fitted):
+    """A ROM command with all that it takes; now and then Read ROM takes a byte less, or the ID to match is none on the line."""
+    probe = bytearray(source.choice(fitted))
+    probe[source.randrange(8)] ^= source.choice((0, 0, 0, 0, 0x10))
+    courses = {
+        0x33: done(0x96) * source.choice((8, 8, 7)),
+        0x55: [event for byte in probe for event in done(0xA5, byte)],
+        0xF0: [event for _ in range(64) for event in done(0x78, source.choice((0x00, 0x80)))],
+    }
+    return done(0xA5, code) + courses.get(code, [])
+
+
+def marking(source):
+    """Some probes; a match or a search, then any ROM command or an unknown code, again and again, mostly each after a reset."""
+    fitted = []
+    events = [fitting(source, fitted) for _ in range(source.randrange(1, 5))]
+    for _ in range(source.randrange(1, 4)):
+        for codes in ((0x55, 0xF0), (0x33, 0x55, 0xF0, 0xCC, 0xA5, source.randrange(256))):
+            events += done(0xB4) if source.randrange(8) else []
+            events += rom_command(source, source.choice(codes), fitted)
+    return events
+
+
 def filling(source, size):
     """As many events as fill a script of this many bytes."""
     room = 8 * size - 16
@@ -202,6 +225,7 @@ SCRIPTS = {  # how many parts of the whole each is, and how it is drawn
     'session': (5, packed(session)),
     'crowd': (2, packed(crowd)),
     'search': (2, packed(search)),
+    'marking': (4, packed(marking)),
     'long': (1, long),
     'any bytes': (2, any_bytes),
     'mutated': (6, mutated),

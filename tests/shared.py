@@ -28,10 +28,10 @@ def succeed(*command):
         sys.exit(done.stdout.decode() + f'failed: {" ".join(map(str, command))}')
 
 
-def built_bench():
-    """The proved bench, built where it is not."""
-    succeed('rt', 'check', 'bench')
-    return ROOT / 'target/bin/bench'
+def built(name):
+    """A proved program, built where it is not."""
+    succeed('rt', 'check', name)
+    return ROOT / 'target/bin' / name
 
 
 def compiled(source, program, *flags):

@@ -1,9 +1,11 @@
-/* An independent model of the bench program, written from document 01 alone. It shares nothing with the
- * Rattle code: identities are bytes, checksums go bit by bit, scripts are read bit by bit.
+/* An independent model of the bench program, written from documents 01 and 02 alone. It shares nothing with
+ * the Rattle code: identities are bytes, checksums go bit by bit, scripts are read bit by bit.
  *
  *   bench_model            one script on standard input, its transcript on standard output
  *   bench_model --many     scripts one after the other, each behind its length in four bytes, low byte
  *                          first; transcripts in the same form
+ *   bench_model --probes   as --many, with the probes that each script leaves in place of its transcript;
+ *                          one that is not of the form leaves none
  */
 #include <stdint.h>
 #include <stdio.h>
@@ -47,18 +49,23 @@ static void begin(struct probe *p, enum condition c)
     p->slot = 0;
 }
 
+static int clears_mark(uint8_t code)
+{
+    return code == 0x33 || code == 0x55 || code == 0xF0 || code == 0xCC;
+}
+
 static void obey(struct probe *p)
 {
+    if (clears_mark(p->code))
+        p->marked = 0;
     switch (p->code) {
     case 0x33:
         begin(p, SENDING);
         break;
     case 0x55:
-        p->marked = 0;
         begin(p, MATCHING);
         break;
     case 0xF0:
-        p->marked = 0;
         begin(p, SEARCHING);
         break;
     case 0xCC:
@@ -390,21 +397,57 @@ static char *run(struct reader *r, struct bridge *b, char *to)
     }
 }
 
-static size_t transcript(const uint8_t *bytes, size_t n, char *out)
+static size_t transcript(struct bridge *b, const uint8_t *bytes, size_t n, char *out)
 {
+    memset(b, 0, sizeof *b);
+    device_reset(b);
     if (!well_formed(bytes, n)) {
         memcpy(out, "15\n", 3);
         return 3;
     }
     struct reader r = opened(bytes, n);
-    struct bridge b;
-    memset(&b, 0, sizeof b);
-    device_reset(&b);
     unsigned count = get(&r, 16);
     char *to = out;
     for (unsigned i = 1; i <= count; i++) {
-        to = run(&r, &b, put_number(to, i));
+        to = run(&r, b, put_number(to, i));
         *to++ = '\n';
+    }
+    return (size_t)(to - out);
+}
+
+/* ---- the probes as bridge_cases shows them */
+
+static char *put_text(char *to, const char *text)
+{
+    size_t n = strlen(text);
+    memcpy(to, text, n);
+    return to + n;
+}
+
+static char *put_condition(char *to, const struct probe *p)
+{
+    static const char *const words[] = {
+        [DEAF] = "deaf",
+        [TAKING] = "taking a code, bits so far ",
+        [SENDING] = "sending bit ",
+        [MATCHING] = "matching bit ",
+        [SEARCHING] = "searching bit ",
+        [SELECTED] = "selected",
+    };
+    static const char *const slots[] = {", first slot", ", second slot", ", third slot"};
+    to = put_text(to, words[p->condition]);
+    if (p->condition != DEAF && p->condition != SELECTED)
+        to = put_number(to, p->bit);
+    return p->condition == SEARCHING ? put_text(to, slots[p->slot]) : to;
+}
+
+static size_t probes_shown(const struct bridge *b, char *out)
+{
+    char *to = out;
+    for (const struct probe *p = b->probes; p < b->probes + b->count; p++) {
+        to = put_byte(put_byte(put_text(to, "probe "), p->id[0]), p->id[1]);
+        to = put_condition(put_text(to, ": "), p);
+        to = put_text(to, p->marked ? ", marked\n" : "\n");
     }
     return (size_t)(to - out);
 }
@@ -413,6 +456,7 @@ static size_t transcript(const uint8_t *bytes, size_t n, char *out)
 
 static uint8_t script[SCRIPT_MOST + 8]; /* room for some bytes too many */
 static char out[EVENTS_MOST * LINE_MOST];
+static struct bridge bridge;
 
 static int get_length(size_t *n)
 {
@@ -429,13 +473,15 @@ static void put_length(size_t n)
         putchar((int)(n >> 8 * i & 255));
 }
 
-static void many(void)
+static void many(int probes)
 {
     size_t n;
     while (get_length(&n)) {
         if (n > sizeof script || fread(script, 1, n, stdin) != n)
             exit(1);
-        size_t len = transcript(script, n, out);
+        size_t len = transcript(&bridge, script, n, out);
+        if (probes)
+            len = probes_shown(&bridge, out);
         put_length(len);
         fwrite(out, 1, len, stdout);
     }
@@ -443,11 +489,12 @@ static void many(void)
 
 int main(int argc, char **argv)
 {
-    if (argc > 1 && strcmp(argv[1], "--many") == 0) {
-        many();
+    int probes = argc > 1 && strcmp(argv[1], "--probes") == 0;
+    if (probes || (argc > 1 && strcmp(argv[1], "--many") == 0)) {
+        many(probes);
     } else {
         size_t n = fread(script, 1, sizeof script, stdin);
-        fwrite(out, 1, transcript(script, n, out), stdout);
+        fwrite(out, 1, transcript(&bridge, script, n, out), stdout);
     }
     return 0;
 }

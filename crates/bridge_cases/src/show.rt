@@ -59,11 +59,13 @@ fn probe(line: Line, i: usize) {
     say::end();
 }
 
-// The probes of the first three places, as far as they are fitted.
+// The fitted probes, in their places.
 pub(crate) fn probes(bridge: Bridge) -> Bridge {
     let line = bridge.line;
-    probe(line, 0);
-    probe(line, 1);
-    probe(line, 2);
+    let mut i: usize = 0;
+    while i < 64 {
+        probe(line, i);
+        i += 1;
+    }
     bridge
 }

@@ -53,14 +53,14 @@ sends p = sendsIn (p .id) (p .condition)
 unfoldable pub resumed : Bool → Condition
 resumed m = cond m Selected Deaf
 
--- The ROM commands. 33h sends the ID; 55h and F0h clear the mark, then match or search; CCh selects; A5h selects the marked;
--- any other code makes it deaf. 33h and CCh leave the mark.
+-- The ROM commands. 33h, 55h, F0h and CCh clear the mark (of 33h and CCh document 02 says so, R-5); then the first sends the ID, the
+-- second matches, the third searches, the last selects. A5h selects the marked and any other code makes it deaf; both leave the mark.
 unfoldable pub obeyed : ℕ → Probe → Probe
 obeyed c p =
-    cond (eqb c 0x33) (inCondition p (Sending 0))
+    cond (eqb c 0x33) (withMark p false (Sending 0))
     (cond (eqb c 0x55) (withMark p false (Matching 0))
     (cond (eqb c 0xF0) (withMark p false (Searching 0 First))
-    (cond (eqb c 0xCC) (inCondition p Selected)
+    (cond (eqb c 0xCC) (withMark p false Selected)
     (cond (eqb c 0xA5) (inCondition p (resumed (p .marked))) (inCondition p Deaf)))))
 
 -- A level as a digit.

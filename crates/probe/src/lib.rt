@@ -1,7 +1,8 @@
 // One probe on the line (document 01, "The probes").
 //
 // A probe is in exactly one of six conditions. In each slot it may send, and then takes the level of the line; a 1-Wire reset makes it
-// take a ROM command. It keeps a mark that Match ROM and Search ROM set and Resume asks for.
+// take a ROM command. It keeps a mark: Read, Match, Search and Skip ROM clear it, a match or a search that ends at the probe sets it, and
+// Resume asks for it.
 //
 // Worked example: a probe that has taken seven bits of CCh and takes a last 1 is selected.
 ghost use mathlib.Core.Path.{_≡_};
@@ -138,7 +139,7 @@ impl Probe {
         ensures { λ r. ⌜ r ≡ obeyed code self ⌝ }
     {
         match code {
-            READ_ROM => self.in_condition(Condition::Sending { bit: 0 }),
+            READ_ROM => self.with_mark(false, Condition::Sending { bit: 0 }),
             MATCH_ROM => self.with_mark(false, Condition::Matching { bit: 0 }),
             SEARCH_ROM => self.with_mark(
                 false,
@@ -147,7 +148,7 @@ impl Probe {
                     slot: Slot::First,
                 },
             ),
-            SKIP_ROM => self.in_condition(Condition::Selected),
+            SKIP_ROM => self.with_mark(false, Condition::Selected),
             RESUME => self.in_condition(resumed(self.marked)),
             _ => self.in_condition(Condition::Deaf),
         }

@@ -36,12 +36,39 @@ fn rom(bridge: Bridge, code: u8) -> Bridge {
     pass::command(pass::command(bridge, b"\xB4"), &bytes)
 }
 
+// One command so many times.
+fn repeated(bridge: Bridge, times: u8, bytes: &[u8]) -> Bridge {
+    let mut b = bridge;
+    let mut i: u8 = 0;
+    while i < times {
+        b = pass::command(b, bytes);
+        i += 1;
+    }
+    b
+}
+
 pub(crate) fn with_pending(bridge: Bridge) -> Bridge {
     rom(bridge, probe::SEARCH_ROM).write(b"\x78\x80").bridge
 }
 
 pub(crate) fn skipped(bridge: Bridge) -> Bridge {
     rom(bridge, probe::SKIP_ROM)
+}
+
+// Skip ROM with no 1-Wire reset before it.
+pub(crate) fn skipped_unheard(bridge: Bridge) -> Bridge {
+    let bytes = [Bridge::WRITE_BYTE, probe::SKIP_ROM];
+    pass::command(bridge, &bytes)
+}
+
+// Read ROM and the 64 bits that follow.
+pub(crate) fn read_whole(bridge: Bridge) -> Bridge {
+    repeated(rom(bridge, probe::READ_ROM), 8, b"\x96")
+}
+
+// A code that is none of the five.
+pub(crate) fn deafened(bridge: Bridge) -> Bridge {
+    rom(bridge, 0x0F)
 }
 
 pub(crate) fn resumed(bridge: Bridge) -> Bridge {
@@ -52,17 +79,7 @@ pub(crate) fn configured(bridge: Bridge) -> Bridge {
     pass::command(pass::command(bridge, b"\x96"), b"\xD2\xE1")
 }
 
-fn triplet(bridge: Bridge) -> Bridge {
-    pass::command(bridge, b"\x78\x80")
-}
-
 // Ten triplets of a pass that takes 1 where it can.
 pub(crate) fn in_a_pass(bridge: Bridge) -> Bridge {
-    let mut b = rom(bridge, probe::SEARCH_ROM);
-    let mut k: u8 = 0;
-    while k < 10 {
-        b = triplet(b);
-        k += 1;
-    }
-    b
+    repeated(rom(bridge, probe::SEARCH_ROM), 10, b"\x78\x80")
 }

@@ -78,18 +78,36 @@ fn lists() {
     show::room(b"b = 0, list of no bytes", bridge, 0, 0);
 }
 
+// What a Resume selects, directly after a search.
 fn resumed() {
     let bridge = lines::of_three(&A, &B, &C);
-    show::resumed(b"Resume after b = 0", bridge, 0);
-    show::resumed(b"Resume after b = 1", bridge, 1);
-    show::resumed(b"Resume after b = 2", bridge, 2);
-    show::resumed(b"Resume after b = 3", bridge, 3);
-    show::resumed(b"Resume after b = 65535", bridge, 65535);
+    show::resumed(b"Resume after b = 0", show::found(bridge, 0));
+    show::resumed(b"Resume after b = 1", show::found(bridge, 1));
+    show::resumed(b"Resume after b = 2", show::found(bridge, 2));
+    show::resumed(b"Resume after b = 3", show::found(bridge, 3));
+    show::resumed(b"Resume after b = 65535", show::found(bridge, 65535));
     show::resumed(
         b"Resume after a search of the line of 64",
-        lines::of_64(),
-        64,
+        show::found(lines::of_64(), 64),
     );
+}
+
+// What a Resume selects where another ROM command comes between (document 02, R-5).
+fn between() {
+    let found = show::found(lines::of_three(&A, &B, &C), 3);
+    let deaf = lines::deafened(found);
+    show::resumed(b"Resume after b = 3 and Skip ROM", lines::skipped(found));
+    show::resumed(b"Resume after b = 3 and Read ROM", lines::read_whole(found));
+    show::resumed(b"Resume after b = 3 and an unknown code", deaf);
+    show::resumed(
+        b"Resume after b = 3 and a Skip ROM that finds all deaf",
+        lines::skipped_unheard(deaf),
+    );
+    show::resumed(
+        b"Resume after b = 3 and a Skip ROM that finds it selected",
+        lines::skipped_unheard(found),
+    );
+    show::resumed(b"Resume after b = 3 and Resume", lines::resumed(found));
 }
 
 fn main() {
@@ -99,4 +117,5 @@ fn main() {
     before();
     lists();
     resumed();
+    between();
 }

@@ -186,14 +186,18 @@ fn all_selected(line: Line) {
     }
 }
 
-// The probes that a Resume selects after the search.
-pub(crate) fn resumed(title: &[u8], bridge: Bridge, b: u16) {
-    let mut list = blank();
-    let searched = search::search(bridge, b, &mut list);
-    let after = lines::resumed(searched.bridge);
+// The probes that a Resume selects.
+pub(crate) fn resumed(title: &[u8], bridge: Bridge) {
+    let after = lines::resumed(bridge);
     let line = after.line;
     say::text(title);
     say::text(b":");
     all_selected(line);
     say::text(b"\n");
+}
+
+// The bridge after a search, of which nothing is printed.
+pub(crate) fn found(bridge: Bridge, b: u16) -> Bridge {
+    let mut list = blank();
+    search::search(bridge, b, &mut list).bridge
 }

@@ -7,48 +7,48 @@ use Rattle.probe.specs.Probe.{obeyed, inCondition}
 use Rattle.probe.proofs.Probe.obeyed.Statement.{statement}
 use Rattle.probe.proofs.Probe.obeyed.Tie as tie
 
-in-condition-requires : tie.Need-in-condition-requires
-in-condition-requires c κs = search needs
-
 with-mark-requires : tie.Need-with-mark-requires
 with-mark-requires c κs = search needs
 
 with-mark-requires-2 : tie.Need-with-mark-requires-2
 with-mark-requires-2 c κs = search needs
 
-in-condition-requires-2 : tie.Need-in-condition-requires-2
-in-condition-requires-2 c κs = search needs
+with-mark-requires-3 : tie.Need-with-mark-requires-3
+with-mark-requires-3 c κs = search needs
+
+with-mark-requires-4 : tie.Need-with-mark-requires-4
+with-mark-requires-4 c κs = search needs
 
 resumed-requires : tie.Need-resumed-requires
 resumed-requires c κs = search needs
 
-in-condition-requires-3 : tie.Need-in-condition-requires-3
-in-condition-requires-3 c κs = search needs
+in-condition-requires : tie.Need-in-condition-requires
+in-condition-requires c κs = search needs
 
-in-condition-requires-4 : tie.Need-in-condition-requires-4
-in-condition-requires-4 c κs = search needs
+in-condition-requires-2 : tie.Need-in-condition-requires-2
+in-condition-requires-2 c κs = search needs
 
 returns : tie.Need-returns
 unfolding obeyed
-returns c = simp (c .before .match .keys1) (c .in-condition .ensures)
+returns c = simp (c .before .match .keys1) (c .with-mark .ensures)
 
 returns-2 : tie.Need-returns-2
 unfolding obeyed
-returns-2 c = simp (c .before .match .keys2) (c .with-mark .ensures)
+returns-2 c = simp (c .before .match .keys2) (c .with-mark2 .ensures)
 
 returns-3 : tie.Need-returns-3
 unfolding obeyed
-returns-3 c = simp (c .before .match .keys3) (c .with-mark2 .ensures)
+returns-3 c = simp (c .before .match .keys3) (c .with-mark3 .ensures)
 
 returns-4 : tie.Need-returns-4
 unfolding obeyed
-returns-4 c = simp (c .before .match .keys4) (c .in-condition2 .ensures)
+returns-4 c = simp (c .before .match .keys4) (c .with-mark4 .ensures)
 
 returns-5 : tie.Need-returns-5
 unfolding obeyed
 returns-5 c =
     let p = c .before .before .before .args .self in
-    c .in-condition3 .ensures
+    c .in-condition .ensures
     ∙ ap (inCondition p) (c .before .resumed .ensures)
     ∙ sym (ap (λ (x : ℕ). obeyed x p) (c .before .before .match .keys5))
 
@@ -57,19 +57,19 @@ unfolding obeyed
 returns-6 c =
     let r = c .before .match .rest in
     simp (ne-eqb _ _ (r .0 .0 .0 .0 .1), ne-eqb _ _ (r .0 .0 .0 .1), ne-eqb _ _ (r .0 .0 .1), ne-eqb _ _ (r .0 .1), ne-eqb _ _ (r .1))
-    (c .in-condition4 .ensures)
+    (c .in-condition2 .ensures)
 
 pub obeyed-spec : {M : Type 1} → statement M
 obeyed-spec =
     tie.close
     (tie.spec
-    in-condition-requires
     with-mark-requires
     with-mark-requires-2
-    in-condition-requires-2
+    with-mark-requires-3
+    with-mark-requires-4
     resumed-requires
-    in-condition-requires-3
-    in-condition-requires-4
+    in-condition-requires
+    in-condition-requires-2
     returns
     returns-2
     returns-3
