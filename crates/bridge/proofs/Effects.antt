@@ -6,7 +6,7 @@ use mathlib.Core.List.{[], _∷_}
 use Prim.Native.Nat.{ℕ}
 use Rattle.bridge.specs.declared.Bridge.{Bridge}
 use Rattle.bridge.specs.declared.Pending.the-variants.{Reset, WriteByte, Triplet}
-use Rattle.bridge.specs.Bridge.{busy, topBit, bytesOf, takenWhileBusy, goodParameter, writeNumber, afterWrite, accepted, deviceReset, pended}
+use Rattle.bridge.specs.Bridge.{busy, topBit, bytesOf, takenWhileBusy, goodParameter, writeNumber, withRegisters, afterWrite, accepted, deviceReset, pended}
 use Rattle.bridge.specs.Bridge.{finishedReset, finishedWrite, finishedTriplet, finishedOf, afterTime, command}
 
 -- Device Reset is taken, busy or not, and drops what is pending.
@@ -14,19 +14,19 @@ never-held : (t : Bool) → cond t false false ≡ false
 never-held true = refl
 never-held false = refl
 
-pub command-deviceReset : (b : Bridge) → command (0xF0 ∷ []) b ≡ deviceReset b
+pub command-deviceReset : (b : Bridge) → command (0xF0 ∷ []) b ≡ withRegisters (deviceReset (b .registers)) b
 unfolding command afterTime finishedOf afterWrite writeNumber bytesOf takenWhileBusy goodParameter accepted
 command-deviceReset b = simp never-held
 
 module _ (b : Bridge) (free : busy b ≡ false) where
-  pub command-reset : command (0xB4 ∷ []) b ≡ finishedReset (pended Reset b)
+  pub command-reset : command (0xB4 ∷ []) b ≡ finishedReset (withRegisters (pended Reset (b .registers)) b)
   unfolding command afterTime finishedOf afterWrite writeNumber bytesOf goodParameter accepted
   command-reset = simp free
 
-  pub command-write : (x : ℕ) → command (0xA5 ∷ x ∷ []) b ≡ finishedWrite x (pended (WriteByte x) b)
+  pub command-write : (x : ℕ) → command (0xA5 ∷ x ∷ []) b ≡ finishedWrite x (withRegisters (pended (WriteByte x) (b .registers)) b)
   unfolding command afterTime finishedOf afterWrite writeNumber bytesOf goodParameter accepted
   command-write x = simp free
 
-  pub command-triplet : (x : ℕ) → command (0x78 ∷ x ∷ []) b ≡ finishedTriplet (topBit x) (pended (Triplet (topBit x)) b)
+  pub command-triplet : (x : ℕ) → command (0x78 ∷ x ∷ []) b ≡ finishedTriplet (topBit x) (withRegisters (pended (Triplet (topBit x)) (b .registers)) b)
   unfolding command afterTime finishedOf afterWrite writeNumber bytesOf goodParameter accepted
   command-triplet x = simp free

@@ -12,7 +12,7 @@ use borrow.Author.Tests.{eq-eqb, ne-eqb}
 use lib.Dec.{eqb}
 use lib.ListN.{length, getD}
 use Rattle.bridge.specs.declared.Bridge.{Bridge}
-use Rattle.bridge.specs.Bridge.{busy, bytesOf, takenWhileBusy, goodParameter, writeNumber, accepted, afterWrite}
+use Rattle.bridge.specs.Bridge.{busy, bytesOf, takenWhileBusy, goodParameter, writeNumber, accepted, withRegisters, afterWrite}
 
 abbrev pub code : List ℕ → ℕ
 code x = getD x 0 0
@@ -59,7 +59,7 @@ module _ (x : List ℕ) (b : Bridge) (some : length x ≡ 0 → ⊥) {w : ℕ} (
 
 -- ---- the state after a write
 
-pub afterWrite-done : (x : List ℕ) (b : Bridge) → writeNumber x b ≡ 0 → afterWrite x b ≡ accepted (code x) (parameter x) b
+pub afterWrite-done : (x : List ℕ) (b : Bridge) → writeNumber x b ≡ 0 → afterWrite x b ≡ withRegisters (accepted (code x) (parameter x) (b .registers)) b
 unfolding afterWrite
 afterWrite-done x b e = simp (eq-eqb _ _ e)
 

@@ -1,7 +1,8 @@
--- The bridge (document 01, "The bridge" and "Numbers returned").
+-- The bridge (document 01, "The bridge" and "Numbers returned"): its registers, and the line beside them.
 --   powerOn            the state at power-on
---   statusOf b         the status register
+--   statusOf r         the status register
 --   readOf b           what a read gives
+--   accepted c x r     the registers after an accepted write of the code c and the parameter x
 --   writeNumber x b    the number that a write of the bytes x gives
 --   afterWrite x b     the state after that write
 --   afterTime b        the state after time has passed
@@ -19,29 +20,26 @@ use Rattle.bridge.specs.declared.Pointer.{Pointer}
 use Rattle.bridge.specs.declared.Pointer.the-variants.{Status, ReadData, Configuration}
 use Rattle.bridge.specs.declared.Pending.{Pending}
 use Rattle.bridge.specs.declared.Pending.the-variants.{Nothing, Reset, SingleBit, WriteByte, ReadByte, Triplet}
+use Rattle.bridge.specs.declared.StatusBits.{StatusBits}
+use Rattle.bridge.specs.declared.Registers.{Registers}
 use Rattle.bridge.specs.declared.Bridge.{Bridge}
 
 -- ---- the state
 
 -- Power-on and Device Reset give RST 1, the other status bits that change 0, configuration 00h, pointer at status, nothing pending.
-abbrev pub cleared : ℕ → Line → Bridge
-cleared r l =
+abbrev pub cleared : ℕ → Registers
+cleared o =
     record {
-      dir = false;
-      tsb = false;
-      sbr = false;
-      rst = true;
-      ppd = false;
+      status = record { dir = false; tsb = false; sbr = false; rst = true; ppd = false };
       configuration = 0;
       pointer = Status;
-      readout = r;
+      readout = o;
       pending = Nothing;
-      line = l;
     }
 
 -- At power-on the read-data byte is 00h and no probe is fitted.
 unfoldable pub powerOn : Bridge
-powerOn = cleared 0 bare
+powerOn = record { registers = cleared 0; line = bare }
 
 -- 1WB: a 1-Wire command is pending.
 abbrev pub isPending : Pending → Bool
@@ -53,86 +51,72 @@ isPending ReadByte = true
 isPending (Triplet d) = true
 
 abbrev pub busy : Bridge → Bool
-busy b = isPending (b .pending)
+busy b = isPending (b .registers .pending)
 
 -- Status, bit 7 to 0: DIR, TSB, SBR, RST, LL, SD, PPD, 1WB. LL is always 1 and SD always 0.
-unfoldable pub statusOf : Bridge → ℕ
-statusOf b =
-    digit (b .dir) * 128 + digit (b .tsb) * 64 + digit (b .sbr) * 32 + digit (b .rst) * 16 + 8 + digit (b .ppd) * 2
-    + digit (busy b)
+unfoldable pub statusOf : Registers → ℕ
+statusOf r =
+    let s = r .status in
+    digit (s .dir) * 128 + digit (s .tsb) * 64 + digit (s .sbr) * 32 + digit (s .rst) * 16 + 8 + digit (s .ppd) * 2
+    + digit (isPending (r .pending))
 
 -- Reading gives the register under the pointer; the configuration register reads with upper nibble 0.
-abbrev pub registerOf : Pointer → Bridge → ℕ
-registerOf Status b = statusOf b
-registerOf ReadData b = b .readout
-registerOf Configuration b = b .configuration % 16
+abbrev pub registerOf : Pointer → Registers → ℕ
+registerOf Status r = statusOf r
+registerOf ReadData r = r .readout
+registerOf Configuration r = r .configuration % 16
 
 unfoldable pub readOf : Bridge → ℕ
-readOf b = registerOf (b .pointer) b
+readOf b = registerOf (b .registers .pointer) (b .registers)
 
 -- ---- the commands as they are accepted
 
--- F0h Device Reset leaves the read-data byte and the line, and drops what is pending, of which the line has seen nothing.
-abbrev pub deviceReset : Bridge → Bridge
-deviceReset b = cleared (b .readout) (b .line)
+-- F0h Device Reset leaves the read-data byte, and drops what is pending.
+abbrev pub deviceReset : Registers → Registers
+deviceReset r = cleared (r .readout)
 
--- The state with another pointer, another pending command and another line.
-abbrev pub changed : Pointer → Pending → Line → Bridge → Bridge
-changed p q l b =
-    record {
-      dir = b .dir;
-      tsb = b .tsb;
-      sbr = b .sbr;
-      rst = b .rst;
-      ppd = b .ppd;
-      configuration = b .configuration;
-      pointer = p;
-      readout = b .readout;
-      pending = q;
-      line = l;
-    }
+-- The registers with another pointer and another pending command.
+abbrev pub changed : Pointer → Pending → Registers → Registers
+changed p q r =
+    record { status = r .status; configuration = r .configuration; pointer = p; readout = r .readout; pending = q }
 
 -- E1h Set Read Pointer: F0h status, E1h read data, C3h configuration.
 unfoldable pub pointerOf : ℕ → Pointer
 pointerOf x = cond (eqb x 0xF0) Status (cond (eqb x 0xE1) ReadData Configuration)
 
-abbrev pub setPointer : ℕ → Bridge → Bridge
-setPointer x b = changed (pointerOf x) (b .pending) (b .line) b
+abbrev pub setPointer : ℕ → Registers → Registers
+setPointer x r = changed (pointerOf x) (r .pending) r
 
 -- D2h Write Configuration stores the low nibble, RST becomes 0, and the pointer goes to the configuration.
-abbrev pub configured : ℕ → Bridge → Bridge
-configured x b =
+abbrev pub configured : ℕ → Registers → Registers
+configured x r =
+    let s = r .status in
     record {
-      dir = b .dir;
-      tsb = b .tsb;
-      sbr = b .sbr;
-      rst = false;
-      ppd = b .ppd;
+      status = record { dir = s .dir; tsb = s .tsb; sbr = s .sbr; rst = false; ppd = s .ppd };
       configuration = x % 16;
       pointer = Configuration;
-      readout = b .readout;
-      pending = b .pending;
-      line = b .line;
+      readout = r .readout;
+      pending = r .pending;
     }
 
 -- The five 1-Wire commands become pending, move the pointer to status and set 1WB at once.
-abbrev pub pended : Pending → Bridge → Bridge
-pended p b = changed Status p (b .line) b
+abbrev pub pended : Pending → Registers → Registers
+pended p r = changed Status p r
 
 -- 87h and 78h use bit 7 of their parameter.
 abbrev pub topBit : ℕ → Bool
 topBit x = eqb (x / 128 % 2) 1
 
 -- The effect of a write that is accepted: its code c and its parameter x.
-unfoldable pub accepted : ℕ → ℕ → Bridge → Bridge
-accepted c x b =
-    cond (eqb c 0xF0) (deviceReset b)
-    (cond (eqb c 0xE1) (setPointer x b)
-    (cond (eqb c 0xD2) (configured x b)
-    (cond (eqb c 0xB4) (pended Reset b)
-    (cond (eqb c 0x87) (pended (SingleBit (topBit x)) b)
-    (cond (eqb c 0xA5) (pended (WriteByte x) b)
-    (cond (eqb c 0x96) (pended ReadByte b) (pended (Triplet (topBit x)) b)))))))
+unfoldable pub accepted : ℕ → ℕ → Registers → Registers
+accepted c x r =
+    cond (eqb c 0xF0) (deviceReset r)
+    (cond (eqb c 0xE1) (setPointer x r)
+    (cond (eqb c 0xD2) (configured x r)
+    (cond (eqb c 0xB4) (pended Reset r)
+    (cond (eqb c 0x87) (pended (SingleBit (topBit x)) r)
+    (cond (eqb c 0xA5) (pended (WriteByte x) r)
+    (cond (eqb c 0x96) (pended ReadByte r) (pended (Triplet (topBit x)) r)))))))
 
 -- ---- the checks of a write
 
@@ -166,46 +150,53 @@ writeNumber (c ∷ ps) b =
     (cond (cond (busy b) (cond (takenWhileBusy c) false true) false) 6
     (cond (eqb (length (c ∷ ps)) (bytesOf c)) (cond (goodParameter c (getD ps 0 0)) 0 8) 7))
 
--- A refused write leaves the state as it was.
+-- The state with other registers: the line has seen nothing.
+abbrev pub withRegisters : Registers → Bridge → Bridge
+withRegisters r b = record { registers = r; line = b .line }
+
+-- An accepted write touches the registers alone. A refused one leaves the state as it was.
 unfoldable pub afterWrite : List ℕ → Bridge → Bridge
-afterWrite x b = cond (eqb (writeNumber x b) 0) (accepted (getD x 0 0) (getD x 1 0) b) b
+afterWrite x b =
+    cond (eqb (writeNumber x b) 0) (withRegisters (accepted (getD x 0 0) (getD x 1 0) (b .registers)) b) b
 
 -- ---- time passing
 
--- What a finished command leaves: nothing pending, and pointer, configuration and RST as they were.
-abbrev pub finished : Bool → Bool → Bool → Bool → ℕ → Line → Bridge → Bridge
-finished d t s p r l b =
-    record {
-      dir = d;
-      tsb = t;
-      sbr = s;
-      rst = b .rst;
-      ppd = p;
-      configuration = b .configuration;
-      pointer = b .pointer;
-      readout = r;
-      pending = Nothing;
-      line = l;
-    }
+-- What a finished command leaves: nothing pending, and pointer and configuration as they were.
+abbrev pub finished : StatusBits → ℕ → Registers → Registers
+finished s o r =
+    record { status = s; configuration = r .configuration; pointer = r .pointer; readout = o; pending = Nothing }
+
+-- Status bits of which PPD is another, and those of which DIR, TSB and SBR are; RST stays.
+abbrev pub withPresence : Bool → StatusBits → StatusBits
+withPresence p s = record { dir = s .dir; tsb = s .tsb; sbr = s .sbr; rst = s .rst; ppd = p }
+
+abbrev pub withLevels : Bool → Bool → Bool → StatusBits → StatusBits
+withLevels d second first s = record { dir = d; tsb = second; sbr = first; rst = s .rst; ppd = s .ppd }
 
 -- B4h 1-Wire Reset: PPD says whether some probe is fitted.
 unfoldable pub finishedReset : Bridge → Bridge
 finishedReset b =
-    finished (b .dir) (b .tsb) (b .sbr) (present (b .line)) (b .readout) (resetAll (b .line)) b
+    let r = b .registers in
+    record { registers = finished (withPresence (present (b .line)) (r .status)) (r .readout) r; line = resetAll (b .line) }
 
 -- 87h Single Bit: one slot; SBR is the line level, and DIR stays.
 unfoldable pub finishedBit : Bool → Bridge → Bridge
 finishedBit w b =
-    finished (b .dir) (b .tsb) (level w (b .line)) (b .ppd) (b .readout) (slot w (b .line)) b
+    let r = b .registers in
+    let s = r .status in
+    record { registers = finished (withLevels (s .dir) (s .tsb) (level w (b .line)) s) (r .readout) r; line = slot w (b .line) }
 
 -- A5h Write Byte: eight slots, low bit first.
 unfoldable pub finishedWrite : ℕ → Bridge → Bridge
-finishedWrite x b = finished (b .dir) (b .tsb) (b .sbr) (b .ppd) (b .readout) (slots 8 x (b .line)) b
+finishedWrite x b =
+    let r = b .registers in
+    record { registers = finished (r .status) (r .readout) r; line = slots 8 x (b .line) }
 
 -- 96h Read Byte: eight write-one slots; their levels go to read data, the first in the low bit.
 unfoldable pub finishedRead : Bridge → Bridge
 finishedRead b =
-    finished (b .dir) (b .tsb) (b .sbr) (b .ppd) (levels 8 0xFF (b .line)) (slots 8 0xFF (b .line)) b
+    let r = b .registers in
+    record { registers = finished (r .status) (levels 8 0xFF (b .line)) r; line = slots 8 0xFF (b .line) }
 
 -- The bit that a triplet writes. Levels 0,0: the direction asked for; 0,1: 0; 1,0 and 1,1: 1.
 abbrev pub chosen : Bool → Bool → Bool → Bool
@@ -219,7 +210,8 @@ finishedTriplet d b =
     let first = level true (b .line) in
     let second = level true l1 in
     let w = chosen first second d in
-    finished w second first (b .ppd) (b .readout) (slot w l2) b
+    let r = b .registers in
+    record { registers = finished (withLevels w second first (r .status)) (r .readout) r; line = slot w l2 }
 
 -- Time passing with nothing pending changes nothing.
 unfoldable pub finishedOf : Pending → Bridge → Bridge
@@ -231,13 +223,13 @@ finishedOf ReadByte b = finishedRead b
 finishedOf (Triplet d) b = finishedTriplet d b
 
 unfoldable pub afterTime : Bridge → Bridge
-afterTime b = finishedOf (b .pending) b
+afterTime b = finishedOf (b .registers .pending) b
 
 -- ---- fitting, and a command given its time
 
 -- The state with another line.
 abbrev pub onLine : Line → Bridge → Bridge
-onLine l b = changed (b .pointer) (b .pending) l b
+onLine l b = record { registers = b .registers; line = l }
 
 -- Fitting touches the line alone.
 unfoldable pub afterFitting : List ℕ → Bridge → Bridge

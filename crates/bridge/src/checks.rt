@@ -5,10 +5,11 @@ use crate::REFUSED_BUSY;
 use crate::REFUSED_LENGTH;
 use crate::REFUSED_PARAMETER;
 use crate::REFUSED_UNKNOWN;
+use crate::Registers;
 use line::DONE;
 ghost use mathlib.Core.Path.{_≡_};
 ghost use mathlib.Core.Bool.{cond, true, false};
-ghost use Rattle.bridge.specs.Bridge.{busy as busyOf, bytesOf, takenWhileBusy, goodParameter, writeNumber};
+ghost use Rattle.bridge.specs.Bridge.{isPending, bytesOf, takenWhileBusy, goodParameter, writeNumber};
 
 // How many bytes the command has in all; 0 for a code that is unknown.
 fn bytes_of(code: u8) -> usize
@@ -68,10 +69,10 @@ fn good_parameter(code: u8, x: u8) -> bool
     }
 }
 
-impl Bridge {
+impl Registers {
     // 1WB: a 1-Wire command is pending.
     pub(crate) fn busy(self) -> bool
-        ensures { λ r. ⌜ r ≡ busyOf self ⌝ }
+        ensures { λ r. ⌜ r ≡ isPending (self .pending) ⌝ }
     {
         let pending = self.pending;
         match pending {
@@ -86,7 +87,7 @@ impl Bridge {
 
     // The bridge is busy and the command is one that has to wait.
     fn held_up(self, code: u8) -> bool
-        ensures { λ r. ⌜ r ≡ cond (busyOf self) (cond (takenWhileBusy code) false true) false ⌝ }
+        ensures { λ r. ⌜ r ≡ cond (isPending (self .pending)) (cond (takenWhileBusy code) false true) false ⌝ }
     {
         if self.busy() {
             if taken_while_busy(code) { false } else { true }
@@ -94,7 +95,9 @@ impl Bridge {
             false
         }
     }
+}
 
+impl Bridge {
     pub(crate) fn write_number(self, bytes: &[u8]) -> u8
         ensures { λ r. ⌜ r ≡ writeNumber (now (bytes .entry)) self ⌝ }
     {
@@ -106,7 +109,8 @@ impl Bridge {
         if wanted == 0 {
             return REFUSED_UNKNOWN;
         }
-        if self.held_up(code) {
+        let registers = self.registers;
+        if registers.held_up(code) {
             return REFUSED_BUSY;
         }
         if bytes.len() != wanted {

@@ -2,9 +2,10 @@
 use crate::Bridge;
 use crate::Pending;
 use crate::Pointer;
-use line::Line;
+use crate::Registers;
+use crate::StatusBits;
 ghost use mathlib.Core.Path.{_≡_};
-ghost use Rattle.bridge.specs.Bridge.{cleared as clearedOn, changed as changedTo, deviceReset, setPointer, configured as configuredTo};
+ghost use Rattle.bridge.specs.Bridge.{cleared as clearedBut, changed as changedTo, setPointer, configured as configuredTo};
 ghost use Rattle.bridge.specs.Bridge.{pended as pendedOf, topBit, pointerOf, accepted as acceptedAs};
 
 fn top_bit(x: u8) -> bool
@@ -23,81 +24,70 @@ fn pointed(x: u8) -> Pointer
     }
 }
 
-impl Bridge {
-    pub(crate) fn cleared(readout: u8, line: Line) -> Bridge
-        ensures { λ r. ⌜ r ≡ clearedOn readout line ⌝ }
+impl Registers {
+    pub(crate) fn cleared(readout: u8) -> Registers
+        ensures { λ r. ⌜ r ≡ clearedBut readout ⌝ }
     {
-        Bridge {
+        let status = StatusBits {
             dir: false,
             tsb: false,
             sbr: false,
             rst: true,
             ppd: false,
+        };
+        Registers {
+            status,
             configuration: 0,
             pointer: Pointer::Status,
             readout,
             pending: Pending::Nothing,
-            line,
         }
     }
 
     // Every other register stays.
-    pub(crate) fn changed(self, pointer: Pointer, pending: Pending, line: Line) -> Bridge
-        ensures { λ r. ⌜ r ≡ changedTo pointer pending line self ⌝ }
+    fn changed(self, pointer: Pointer, pending: Pending) -> Registers
+        ensures { λ r. ⌜ r ≡ changedTo pointer pending self ⌝ }
     {
-        Bridge {
-            dir: self.dir,
-            tsb: self.tsb,
-            sbr: self.sbr,
-            rst: self.rst,
-            ppd: self.ppd,
+        let status = self.status;
+        Registers {
+            status,
             configuration: self.configuration,
             pointer,
             readout: self.readout,
             pending,
-            line,
         }
     }
 
-    // What is pending is dropped, and the line has seen none of it.
-    fn device_reset(self) -> Bridge
-        ensures { λ r. ⌜ r ≡ deviceReset self ⌝ }
-    {
-        let line = self.line;
-        Bridge::cleared(self.readout, line)
-    }
-
-    fn set_pointer(self, x: u8) -> Bridge
+    fn set_pointer(self, x: u8) -> Registers
         ensures { λ r. ⌜ r ≡ setPointer x self ⌝ }
     {
         let pending = self.pending;
-        let line = self.line;
-        self.changed(pointed(x), pending, line)
+        self.changed(pointed(x), pending)
     }
 
-    fn configured(mut self, x: u8) -> Bridge
+    fn configured(mut self, x: u8) -> Registers
         ensures { λ r. ⌜ r ≡ configuredTo x self ⌝ }
     {
-        self.rst = false;
+        let mut status = self.status;
+        status.rst = false;
+        self.status = status;
         self.configuration = x % 16;
         let pending = self.pending;
-        let line = self.line;
-        self.changed(Pointer::Configuration, pending, line)
+        self.changed(Pointer::Configuration, pending)
     }
 
-    fn pended(self, pending: Pending) -> Bridge
+    fn pended(self, pending: Pending) -> Registers
         ensures { λ r. ⌜ r ≡ pendedOf pending self ⌝ }
     {
-        let line = self.line;
-        self.changed(Pointer::Status, pending, line)
+        self.changed(Pointer::Status, pending)
     }
 
     // Every code that is not named here is that of the triplet: an unknown one has been refused.
-    pub(crate) fn accepted(self, code: u8, x: u8) -> Bridge
+    pub(crate) fn accepted(self, code: u8, x: u8) -> Registers
         ensures { λ r. ⌜ r ≡ acceptedAs code x self ⌝ }
     {
         match code {
-            Bridge::DEVICE_RESET => self.device_reset(),
+            Bridge::DEVICE_RESET => Registers::cleared(self.readout),
             Bridge::SET_READ_POINTER => self.set_pointer(x),
             Bridge::WRITE_CONFIGURATION => self.configured(x),
             Bridge::ONE_WIRE_RESET => self.pended(Pending::Reset),

@@ -43,17 +43,25 @@ pub enum Pending {
     Triplet { direction: bool },
 }
 
-// The status register is its five bits that change here and whether a command is pending; LL is always 1 and SD always 0.
-pub struct Bridge {
+// The five bits of the status register that change here; LL is always 1, SD always 0, and 1WB is whether a command is pending.
+pub struct StatusBits {
     pub dir: bool,
     pub tsb: bool,
     pub sbr: bool,
     pub rst: bool,
     pub ppd: bool,
+}
+
+pub struct Registers {
+    pub status: StatusBits,
     pub configuration: u8,
     pub pointer: Pointer,
     pub readout: u8,
     pub pending: Pending,
+}
+
+pub struct Bridge {
+    pub registers: Registers,
     pub line: Line,
 }
 
@@ -68,6 +76,22 @@ fn weighed(bit: bool, weight: u8) -> u8
     ensures { λ r. ⌜ (r ≡ digit bit * weight) × (r ≤ weight) ⌝ }
 {
     if bit { weight } else { 0 }
+}
+
+impl Registers {
+    fn status(self) -> u8
+        ensures { λ r. ⌜ r ≡ statusOf self ⌝ }
+    {
+        let busy = self.busy();
+        let status = self.status;
+        weighed(status.dir, 128)
+            + weighed(status.tsb, 64)
+            + weighed(status.sbr, 32)
+            + weighed(status.rst, 16)
+            + 8
+            + weighed(status.ppd, 2)
+            + weighed(busy, 1)
+    }
 }
 
 impl Bridge {
@@ -104,46 +128,42 @@ impl Bridge {
     pub fn power_on() -> Bridge
         ensures { λ r. ⌜ r ≡ powerOn ⌝ }
     {
-        Bridge::cleared(0, Line::bare())
+        Bridge {
+            registers: Registers::cleared(0),
+            line: Line::bare(),
+        }
     }
 
     // A write of any bytes. A refused one leaves the bridge as it was.
-    pub fn write(self, bytes: &[u8]) -> Answer
+    pub fn write(mut self, bytes: &[u8]) -> Answer
         ensures { λ r. ⌜ (r .number ≡ writeNumber (now (bytes .entry)) self) × (r .bridge ≡ afterWrite (now (bytes .entry)) self) ⌝ }
     {
         let number = self.write_number(bytes);
-        if number == DONE {
-            let bridge = self.accepted(bytes::at(bytes, 0), bytes::at(bytes, 1));
-            return Answer { number, bridge };
+        if number != DONE {
+            return Answer {
+                number,
+                bridge: self,
+            };
         }
+        let before = self.registers;
+        let after = before.accepted(bytes::at(bytes, 0), bytes::at(bytes, 1));
+        self.registers = after;
         Answer {
             number,
             bridge: self,
         }
     }
 
-    fn status(self) -> u8
-        ensures { λ r. ⌜ r ≡ statusOf self ⌝ }
-    {
-        let busy = self.busy();
-        weighed(self.dir, 128)
-            + weighed(self.tsb, 64)
-            + weighed(self.sbr, 32)
-            + weighed(self.rst, 16)
-            + 8
-            + weighed(self.ppd, 2)
-            + weighed(busy, 1)
-    }
-
     // What a read gives. It changes nothing.
     pub fn read(self) -> u8
         ensures { λ r. ⌜ r ≡ readOf self ⌝ }
     {
-        let pointer = self.pointer;
+        let registers = self.registers;
+        let pointer = registers.pointer;
         match pointer {
-            Pointer::Status => self.status(),
-            Pointer::ReadData => self.readout,
-            Pointer::Configuration => self.configuration % 16,
+            Pointer::Status => registers.status(),
+            Pointer::ReadData => registers.readout,
+            Pointer::Configuration => registers.configuration % 16,
         }
     }
 
@@ -151,7 +171,8 @@ impl Bridge {
     pub fn wait(self) -> Bridge
         ensures { λ r. ⌜ r ≡ afterTime self ⌝ }
     {
-        let pending = self.pending;
+        let registers = self.registers;
+        let pending = registers.pending;
         match pending {
             Pending::Nothing => self,
             Pending::Reset => self.finished_reset(),
@@ -163,17 +184,16 @@ impl Bridge {
     }
 
     // A probe is fitted, deaf and unmarked. A refused one leaves the bridge as it was. That a command is pending does not matter.
-    pub fn fit(self, id: &[u8; 8]) -> Answer
+    pub fn fit(mut self, id: &[u8; 8]) -> Answer
         ensures { λ r. ⌜ (r .number ≡ fitNumber (now (id .entry)) (self .line)) × (r .bridge ≡ afterFitting (now (id .entry)) self) ⌝ }
     {
         let before = self.line;
         let fitting = before.fit(id);
         let after = fitting.line;
-        let mut bridge = self;
-        bridge.line = after;
+        self.line = after;
         Answer {
             number: fitting.number,
-            bridge,
+            bridge: self,
         }
     }
 }

@@ -175,5 +175,6 @@ taking-bits (suc n) k c x p e h w =
     ∙ ap (λ (m : ℕ). c / 2 ^ suc (suc n) + 2 ^ k * m)
     (ap (λ (d : ℕ). d + 2 * (x / 2 % 2 ^ suc n)) (digit-odd x) ∙ sym (low-suc (suc n) x)))
 
-pub taking-whole : (c x : ℕ) (p : Probe) → p .condition ≡ Taking 0 c → c < 256 → x < 256 → tookBits 8 x p ≡ obeyed x p
-taking-whole c x p e h g = taking-bits 7 0 c x p e refl refl ∙ ap (λ (m : ℕ). obeyed m p) (omega arith)
+pub taking-whole : (k c x y : ℕ) (p : Probe) → p .condition ≡ Taking k c → k ≡ 0 → c < 256 → x < 256 → x ≡ y → tookBits 8 x p ≡ obeyed y p
+taking-whole k c x y p e first h g same =
+    taking-bits 7 0 c x p (e ∙ ap (λ (j : ℕ). Taking j c) first) refl refl ∙ ap (λ (m : ℕ). obeyed m p) (omega arith)

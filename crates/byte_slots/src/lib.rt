@@ -6,11 +6,16 @@
 // Worked example: a line of two probes that send their IDs, the next eight bits of one being 3Fh and of the other F5h, reads as 35h.
 use line::Line;
 use probe::Condition;
+use probe::MATCH_ROM;
 use probe::Probe;
+use probe::READ_ROM;
+use probe::SEARCH_ROM;
+use probe::Slot;
 ghost use mathlib.Core.Path.{_≡_};
 ghost use Prim.Native.Nat.{_+_, _*_, _/_, _%_, _^_};
-ghost use Rattle.probe.specs.declared.Condition.the-variants.{Sending, Matching};
-ghost use Rattle.probe.specs.Probe.{digit};
+ghost use mathlib.Core.Bool.{true, false};
+ghost use Rattle.probe.specs.declared.Condition.the-variants.{Matching};
+ghost use Rattle.probe.specs.Probe.{rests, inCondition, withMark, digit};
 ghost use Rattle.line.specs.Line.{all, fitted, onFitted, levels as levelsOf, slots as slotsOf};
 ghost use Rattle.byte_slots.specs.Foresight.{foreseen, ahead, meet, tookBits};
 
@@ -19,6 +24,12 @@ pub struct Levels {
     pub byte: u8,
     pub line: Line,
 }
+
+// What a probe is in once it has taken Search ROM.
+const SEARCHING: Condition = Condition::Searching {
+    bit: 0,
+    slot: Slot::First,
+};
 
 // The number of a bit from which eight are left.
 const LAST_EIGHT: u8 = 56;
@@ -64,6 +75,28 @@ fn ahead(p: Probe) -> u8
     }
 }
 
+// A probe that begins what a ROM command asks: its mark is cleared.
+fn begun(p: Probe, condition: Condition) -> Probe
+    ensures { λ r. ⌜ r ≡ withMark p false condition ⌝ }
+{
+    Probe {
+        id: p.id,
+        marked: false,
+        condition,
+    }
+}
+
+// A probe that goes on with it: its mark stays.
+fn gone_on(p: Probe, condition: Condition) -> Probe
+    ensures { λ r. ⌜ r ≡ inCondition p condition ⌝ }
+{
+    Probe {
+        id: p.id,
+        marked: p.marked,
+        condition,
+    }
+}
+
 // The probe after eight slots whose levels are the bits of a byte.
 fn took_bits(before: Probe, byte: u8) -> Probe
     ensures { λ r. ⌜ r ≡ tookBits 8 byte before ⌝ }
@@ -77,22 +110,6 @@ fn took_bits(before: Probe, byte: u8) -> Probe
         left -= 1;
     }
     p
-}
-
-// One that sends the last eight bits of its ID is selected after them.
-fn took_sending(p: Probe, bit: u8, byte: u8) -> Probe
-    requires { ⌜ p .condition ≡ Sending bit ⌝ }
-    ensures { λ r. ⌜ r ≡ tookBits 8 byte p ⌝ }
-{
-    if bit == LAST_EIGHT {
-        Probe {
-            id: p.id,
-            marked: p.marked,
-            condition: Condition::Selected,
-        }
-    } else {
-        took_bits(p, byte)
-    }
 }
 
 // One that matches its ID goes on by eight bits if all of them agree.
@@ -125,33 +142,15 @@ fn took_matching(p: Probe, bit: u8, byte: u8) -> Probe
     }
 }
 
-// The same, by the condition. A code of which no bit has come yet is the byte.
-fn took_byte(p: Probe, byte: u8) -> Probe
-    ensures { λ r. ⌜ r ≡ tookBits 8 byte p ⌝ }
-{
-    let condition = p.condition;
-    match condition {
-        Condition::Taking { count, code } => {
-            if count == 0 {
-                p.obeyed(byte)
-            } else {
-                took_bits(p, byte)
-            }
-        }
-        Condition::Sending { bit } => took_sending(p, bit, byte),
-        Condition::Matching { bit } => took_matching(p, bit, byte),
-        _ => took_bits(p, byte),
-    }
-}
-
-fn all_foreseen(line: Line) -> bool
-    ensures { λ r. ⌜ r ≡ all (foreseen 8) (fitted line) ⌝ }
+// No slot changes any probe of the line.
+fn all_rest(line: Line) -> bool
+    ensures { λ r. ⌜ r ≡ all rests (fitted line) ⌝ }
 {
     let n = line.entries();
     let mut i = 0;
     while i < n {
         let p = line.probes[i];
-        if !foreseen(p) {
+        if !p.rests() {
             return false;
         }
         i += 1;
@@ -159,23 +158,37 @@ fn all_foreseen(line: Line) -> bool
     true
 }
 
-// The levels of eight slots on a line of foreseen probes, the bridge writing the bits of a byte.
-fn levels_ahead(line: Line, byte: u8) -> u8
-    ensures { λ r. ⌜ r ≡ meet 8 byte (fitted line) ⌝ }
+// What eight slots come to, where that is settled before they begin: every probe is foreseen.
+struct Prospect {
+    settled: bool,
+    levels: u8,
+}
+
+fn outlook(line: Line, byte: u8) -> Prospect
+    ensures { λ r. ⌜ (r .settled ≡ true → (all (foreseen 8) (fitted line) ≡ true) × (r .levels ≡ meet 8 byte (fitted line))) ⌝ }
 {
     let n = line.entries();
     let mut levels = byte;
     let mut i = 0;
     while i < n {
         let p = line.probes[i];
+        if !foreseen(p) {
+            return Prospect {
+                settled: false,
+                levels,
+            };
+        }
         levels = levels & ahead(p);
         i += 1;
     }
-    levels
+    Prospect {
+        settled: true,
+        levels,
+    }
 }
 
-// Every probe takes eight levels, the bits of a byte. One that sends its ID goes on by eight bits, whatever the levels; it is stored by an
-// assignment of its own, since one place that stores what several ways have made waits for the memory.
+// Every probe takes eight levels, the bits of a byte. A code of which no bit has come yet is the byte. Each outcome that is met often has
+// an assignment of its own, since one place that stores what several ways have made waits for the memory.
 fn taken_byte(mut line: Line, byte: u8) -> Line
     ensures { λ r. ⌜ r ≡ onFitted (tookBits 8 byte) line ⌝ }
 {
@@ -185,22 +198,31 @@ fn taken_byte(mut line: Line, byte: u8) -> Line
         let at = i;
         let p = line.probes[at];
         i += 1;
-        if !p.rests() {
-            let condition = p.condition;
-            match condition {
-                Condition::Sending { bit } => {
-                    if bit < LAST_EIGHT {
-                        line.probes[at] = Probe {
-                            id: p.id,
-                            marked: p.marked,
-                            condition: Condition::Sending { bit: bit + 8 },
-                        };
-                    } else {
-                        line.probes[at] = took_byte(p, byte);
+        let condition = p.condition;
+        match condition {
+            Condition::Deaf => {}
+            Condition::Taking { count, code: _ } => match count {
+                0 => match byte {
+                    READ_ROM => line.probes[at] = begun(p, Condition::Sending { bit: 0 }),
+                    MATCH_ROM => line.probes[at] = begun(p, Condition::Matching { bit: 0 }),
+                    SEARCH_ROM => line.probes[at] = begun(p, SEARCHING),
+                    _ => line.probes[at] = p.obeyed(byte),
+                },
+                _ => line.probes[at] = took_bits(p, byte),
+            },
+            Condition::Sending { bit } => {
+                if bit < LAST_EIGHT {
+                    line.probes[at] = gone_on(p, Condition::Sending { bit: bit + 8 });
+                } else {
+                    match bit {
+                        LAST_EIGHT => line.probes[at] = gone_on(p, Condition::Selected),
+                        _ => line.probes[at] = took_bits(p, byte),
                     }
                 }
-                _ => line.probes[at] = took_byte(p, byte),
             }
+            Condition::Matching { bit } => line.probes[at] = took_matching(p, bit, byte),
+            Condition::Searching { bit: _, slot: _ } => line.probes[at] = took_bits(p, byte),
+            Condition::Selected => {}
         }
     }
     line
@@ -234,11 +256,14 @@ fn slot_by_slot(start: Line, byte: u8) -> Levels
 pub fn slots(line: Line, byte: u8) -> Levels
     ensures { λ r. ⌜ (r .byte ≡ levelsOf 8 byte line) × (r .line ≡ slotsOf 8 byte line) ⌝ }
 {
-    if all_foreseen(line) {
-        let levels = levels_ahead(line, byte);
+    if all_rest(line) {
+        return Levels { byte, line };
+    }
+    let ahead = outlook(line, byte);
+    if ahead.settled {
         Levels {
-            byte: levels,
-            line: taken_byte(line, levels),
+            byte: ahead.levels,
+            line: taken_byte(line, ahead.levels),
         }
     } else {
         slot_by_slot(line, byte)

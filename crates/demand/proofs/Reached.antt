@@ -220,7 +220,7 @@ reached-searched : (m i : ℕ) (c : Conflict) (b : Bridge) → Reached b → Rea
 unfolding searched continued
 reached-searched zero i c b r = r
 reached-searched (suc m) i c b r =
-    go (reset .ppd) (w .silent) (w .conflict) (searched m (w .id) (w .conflict) (w .bridge))
+    go (reset .registers .status .ppd) (w .silent) (w .conflict) (searched m (w .id) (w .conflict) (w .bridge))
     (reached-searched m (w .id) (w .conflict) (w .bridge) end)
   where
     reset : Bridge

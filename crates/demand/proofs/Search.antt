@@ -21,7 +21,7 @@ use Rattle.line.specs.Line.{fitted, idOf, idsOf, fitNumber}
 use Rattle.bridge.specs.declared.Bridge.{Bridge}
 use Rattle.bridge.specs.declared.Pending.{Pending}
 use Rattle.bridge.specs.declared.Pending.the-variants.{Nothing, Reset}
-use Rattle.bridge.specs.Bridge.{isPending, pended, accepted, bytesOf, takenWhileBusy, goodParameter, writeNumber, afterWrite, finishedReset, finishedOf, afterTime, command, afterFitting}
+use Rattle.bridge.specs.Bridge.{isPending, pended, withRegisters, accepted, bytesOf, takenWhileBusy, goodParameter, writeNumber, afterWrite, finishedReset, finishedOf, afterTime, command, afterFitting}
 use Rattle.bridge.specs.Reached.{Bytes, Reached}
 use Rattle.bridge.specs.Reached.Reached.{fit}
 use Rattle.pass.specs.Passes.{search}
@@ -82,17 +82,17 @@ resumed-line x ids rest l narrow there e =
         (sym (id-standing 64 x i) ∙ sym (obeyed-id 0xA5 (standing 64 x i)) ∙ ap idOf f)
 
 -- with nothing pending the reset is accepted, and then the Resume
-reset-accepted : (s : Bridge) → s .pending ≡ Nothing → writeNumber (0xB4 ∷ []) s ≡ 0
+reset-accepted : (s : Bridge) → s .registers .pending ≡ Nothing → writeNumber (0xB4 ∷ []) s ≡ 0
 unfolding writeNumber bytesOf takenWhileBusy goodParameter
 reset-accepted s e = ap (λ (p : Pending). cond {A = ℕ} (cond (isPending p) true false) 6 0) e
 
-resume-accepted : (s : Bridge) → s .pending ≡ Nothing → writeNumber (0xA5 ∷ 0xA5 ∷ []) s ≡ 0
+resume-accepted : (s : Bridge) → s .registers .pending ≡ Nothing → writeNumber (0xA5 ∷ 0xA5 ∷ []) s ≡ 0
 unfolding writeNumber bytesOf takenWhileBusy goodParameter
 resume-accepted s e = ap (λ (p : Pending). cond {A = ℕ} (cond (isPending p) true false) 6 0) e
 
-reset-done : (s : Bridge) → s .pending ≡ Nothing → command (0xB4 ∷ []) s .pending ≡ Nothing
+reset-done : (s : Bridge) → s .registers .pending ≡ Nothing → command (0xB4 ∷ []) s .registers .pending ≡ Nothing
 unfolding command afterWrite accepted afterTime finishedOf finishedReset
-reset-done s e = ap (λ (n : ℕ). afterTime (cond (eqb n 0) (pended Reset s) s) .pending) (reset-accepted s e)
+reset-done s e = ap (λ (n : ℕ). afterTime (cond (eqb n 0) (withRegisters (pended Reset (s .registers)) s) s) .registers .pending) (reset-accepted s e)
 
 -- ---- the search, from a state that calls reach
 

@@ -27,24 +27,24 @@ met ppd silent m i c b =
     (absent (command (0xB4 ∷ []) b))
 
 module _ (m i : ℕ) (c : Conflict) (b : Bridge) where
-  pub searched-absent : command (0xB4 ∷ []) b .ppd ≡ false → searched (suc m) i c b ≡ absent (command (0xB4 ∷ []) b)
+  pub searched-absent : command (0xB4 ∷ []) b .registers .status .ppd ≡ false → searched (suc m) i c b ≡ absent (command (0xB4 ∷ []) b)
   unfolding searched
   searched-absent p = ap (λ (x : Bool). met x (next i c b .silent) m i c b) p
 
-  pub searched-silenced : command (0xB4 ∷ []) b .ppd ≡ true → next i c b .silent ≡ true → searched (suc m) i c b ≡ silenced (next i c b .bridge)
+  pub searched-silenced : command (0xB4 ∷ []) b .registers .status .ppd ≡ true → next i c b .silent ≡ true → searched (suc m) i c b ≡ silenced (next i c b .bridge)
   unfolding searched
   searched-silenced p s = ap₂ (λ (x y : Bool). met x y m i c b) p s
 
-  pub searched-next : (q : Conflict) → command (0xB4 ∷ []) b .ppd ≡ true → next i c b .silent ≡ false → next i c b .conflict ≡ q → searched (suc m) i c b ≡ continued q (next i c b) (searched m (next i c b .id) q (next i c b .bridge))
+  pub searched-next : (q : Conflict) → command (0xB4 ∷ []) b .registers .status .ppd ≡ true → next i c b .silent ≡ false → next i c b .conflict ≡ q → searched (suc m) i c b ≡ continued q (next i c b) (searched m (next i c b .id) q (next i c b .bridge))
   unfolding searched
   searched-next q p s e =
       ap₂ (λ (x y : Bool). met x y m i c b) p s
       ∙ ap (λ (v : Conflict). continued v (next i c b) (searched m (next i c b .id) v (next i c b .bridge))) e
 
-  pub searched-last : command (0xB4 ∷ []) b .ppd ≡ true → next i c b .silent ≡ false → next i c b .conflict ≡ Nowhere → searched (suc m) i c b ≡ lastOne (next i c b)
+  pub searched-last : command (0xB4 ∷ []) b .registers .status .ppd ≡ true → next i c b .silent ≡ false → next i c b .conflict ≡ Nowhere → searched (suc m) i c b ≡ lastOne (next i c b)
   unfolding continued
   searched-last p s e = searched-next Nowhere p s e
 
-  pub searched-more : (q : ℕ) → command (0xB4 ∷ []) b .ppd ≡ true → next i c b .silent ≡ false → next i c b .conflict ≡ At q → searched (suc m) i c b ≡ before (next i c b .id) (searched m (next i c b .id) (At q) (next i c b .bridge))
+  pub searched-more : (q : ℕ) → command (0xB4 ∷ []) b .registers .status .ppd ≡ true → next i c b .silent ≡ false → next i c b .conflict ≡ At q → searched (suc m) i c b ≡ before (next i c b .id) (searched m (next i c b .id) (At q) (next i c b .bridge))
   unfolding continued
   searched-more q p s e = searched-next (At q) p s e

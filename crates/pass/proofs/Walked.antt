@@ -17,7 +17,7 @@ use Rattle.pass.specs.Pass.{direction, noted, tripletByte, tookTriplet, 
 
 module _ (i : ℕ) (c : Conflict) (k : ℕ) (w : Walk) where
   -- the bridge after the triplet shows the bit taken and the two levels
-  pub tripled-by : {b : Bridge} {j : ℕ} {q : Conflict} {s : Bool} → b ≡ command (0x78 ∷ tripletByte (direction i c k) ∷ []) (w .bridge) → j ≡ w .id + digit (b .dir) * 2 ^ k → q ≡ noted (b .sbr) (b .tsb) (b .dir) k (w .conflict) → s ≡ cond (b .sbr) (cond (b .tsb) true (w .silent)) (w .silent) → _≡_ {A = Walk} (record { bridge = b; id = j; conflict = q; silent = s }) (tripled i c k w)
+  pub tripled-by : {b : Bridge} {j : ℕ} {q : Conflict} {n : Bool} → let s = b .registers .status in b ≡ command (0x78 ∷ tripletByte (direction i c k) ∷ []) (w .bridge) → j ≡ w .id + digit (s .dir) * 2 ^ k → q ≡ noted (s .sbr) (s .tsb) (s .dir) k (w .conflict) → n ≡ cond (s .sbr) (cond (s .tsb) true (w .silent)) (w .silent) → _≡_ {A = Walk} (record { bridge = b; id = j; conflict = q; silent = n }) (tripled i c k w)
   unfolding tripled tookTriplet
   tripled-by {b} e f g h =
       (λ r. record { bridge = b; id = f r; conflict = g r; silent = h r }) ∙ ap (λ (v : Bridge). tookTriplet k v w) e

@@ -35,11 +35,12 @@ noted first second taken k c = cond first c (cond second c (cond taken c (At k))
 -- What the bridge shows after the triplet: SBR and TSB are the levels and DIR the bit taken.
 unfoldable pub tookTriplet : ℕ → Bridge → Walk → Walk
 tookTriplet k b w =
+    let s = b .registers .status in
     record {
       bridge = b;
-      id = w .id + digit (b .dir) * 2 ^ k;
-      conflict = noted (b .sbr) (b .tsb) (b .dir) k (w .conflict);
-      silent = cond (b .sbr) (cond (b .tsb) true (w .silent)) (w .silent);
+      id = w .id + digit (s .dir) * 2 ^ k;
+      conflict = noted (s .sbr) (s .tsb) (s .dir) k (w .conflict);
+      silent = cond (s .sbr) (cond (s .tsb) true (w .silent)) (w .silent);
     }
 
 unfoldable pub tripled : ℕ → Conflict → ℕ → Walk → Walk

@@ -55,7 +55,7 @@ searched zero i c s = exhausted s
 searched (suc b) i c s =
     let r = command (0xB4 ∷ []) s in
     let w = passed i c r in
-    cond (r .ppd)
+    cond (r .registers .status .ppd)
     (cond (w .silent) (silenced (w .bridge)) (continued (w .conflict) w (searched b (w .id) (w .conflict) (w .bridge))))
     (absent r)
 

@@ -109,9 +109,11 @@ fn triplets(previous: u64, before: Conflict, start: Bridge) -> Walk
         let asked = direction(previous, before, k);
         let bytes = [Bridge::TRIPLET, triplet_byte(asked)];
         bridge = command(bridge, &bytes);
-        id = with_bit(id, bridge.dir, k);
-        conflict = noted(bridge.sbr, bridge.tsb, bridge.dir, k, conflict);
-        silent = silent_after(bridge.sbr, bridge.tsb, silent);
+        let registers = bridge.registers;
+        let status = registers.status;
+        id = with_bit(id, status.dir, k);
+        conflict = noted(status.sbr, status.tsb, status.dir, k, conflict);
+        silent = silent_after(status.sbr, status.tsb, silent);
         k += 1;
     }
     Walk {

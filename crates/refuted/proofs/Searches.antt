@@ -90,10 +90,10 @@ searched-by (suc n) i q s = go (walkedBy noted 64 0 i q start) (walked-by 64 0 i
     start : Walk
     start = begun (command (0xA5 ∷ 0xF0 ∷ []) r)
 
-    go : (w : Walk) → w ≡ walked 64 0 i q start → ((i : ℕ) (q : Conflict) (s : Bridge) → searchedBy noted n i q s ≡ searched n i q s) → cond (r .ppd) (cond (w .silent) (silenced (w .bridge)) (continued (w .conflict) w (searchedBy noted n (w .id) (w .conflict) (w .bridge)))) (absent r) ≡ searched (suc n) i q s
+    go : (w : Walk) → w ≡ walked 64 0 i q start → ((i : ℕ) (q : Conflict) (s : Bridge) → searchedBy noted n i q s ≡ searched n i q s) → cond (r .registers .status .ppd) (cond (w .silent) (silenced (w .bridge)) (continued (w .conflict) w (searchedBy noted n (w .id) (w .conflict) (w .bridge)))) (absent r) ≡ searched (suc n) i q s
     go w e rest =
-        ap (λ (t : Result). cond (r .ppd) (cond (w .silent) (silenced (w .bridge)) (continued (w .conflict) w t)) (absent r)) (rest (w .id) (w .conflict) (w .bridge))
-        ∙ ap (λ (v : Walk). cond (r .ppd) (cond (v .silent) (silenced (v .bridge)) (continued (v .conflict) v (searched n (v .id) (v .conflict) (v .bridge)))) (absent r)) e
+        ap (λ (t : Result). cond (r .registers .status .ppd) (cond (w .silent) (silenced (w .bridge)) (continued (w .conflict) w t)) (absent r)) (rest (w .id) (w .conflict) (w .bridge))
+        ∙ ap (λ (v : Walk). cond (r .registers .status .ppd) (cond (v .silent) (silenced (v .bridge)) (continued (v .conflict) v (searched n (v .id) (v .conflict) (v .bridge)))) (absent r)) e
 
 pub rules : (n : ℕ) (s : Bridge) → searchBy noted n s ≡ search n s
 unfolding searchBy search

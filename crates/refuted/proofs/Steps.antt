@@ -37,7 +37,7 @@ pending-reached : Reached pending
 pending-reached = write (0xB4 ∷ []) (bytes-one 0xB4 (lit< tt)) on
 
 -- 18h at power-on, 19h while a reset is pending
-pub status-fixed : (v : ℕ) → ((s : Bridge) → Reached s → s .pointer ≡ Status → readOf s ≡ v) → ⊥
+pub status-fixed : (v : ℕ) → ((s : Bridge) → Reached s → s .registers .pointer ≡ Status → readOf s ≡ v) → ⊥
 unfolding readOf statusOf afterWrite writeNumber bytesOf powerOn goodParameter accepted
 status-fixed v h =
     let free : 0x18 ≡ v = h powerOn on refl in
@@ -49,22 +49,22 @@ pub write-lazy : ((x : List ℕ) → Bytes x → (s : Bridge) → Reached s → 
 unfolding afterWrite writeNumber bytesOf powerOn goodParameter accepted
 write-lazy h =
     false≢true
-    (ap (λ (s : Bridge). s .rst) (h (0xD2 ∷ 0xF0 ∷ []) (bytes-two 0xD2 0xF0 (lit< tt) (lit< tt)) powerOn on))
+    (ap (λ (s : Bridge). s .registers .status .rst) (h (0xD2 ∷ 0xF0 ∷ []) (bytes-two 0xD2 0xF0 (lit< tt) (lit< tt)) powerOn on))
 
 pub time-lazy : ((s : Bridge) → Reached s → afterTime s ≡ s) → ⊥
 unfolding afterTime finishedOf finishedReset afterWrite writeNumber bytesOf powerOn goodParameter accepted
 time-lazy h = false≢true (ap busy (h pending pending-reached))
 
-pub rst-cleared : ((s : Bridge) → Reached s → s .pending ≡ Reset → clearsRst s ≡ afterTime s) → ⊥
+pub rst-cleared : ((s : Bridge) → Reached s → s .registers .pending ≡ Reset → clearsRst s ≡ afterTime s) → ⊥
 unfolding afterTime finishedOf finishedReset afterWrite writeNumber bytesOf powerOn goodParameter accepted
-rst-cleared h = false≢true (ap (λ (s : Bridge). s .rst) (h pending pending-reached refl))
+rst-cleared h = false≢true (ap (λ (s : Bridge). s .registers .status .rst) (h pending pending-reached refl))
 
 -- with no probe on the line both levels are 1
-pub zero-written : ((s : Bridge) → Reached s → (d : Bool) → s .pending ≡ Triplet d → tripletBy zeroAfterOnes d s ≡ afterTime s) → ⊥
+pub zero-written : ((s : Bridge) → Reached s → (d : Bool) → s .registers .pending ≡ Triplet d → tripletBy zeroAfterOnes d s ≡ afterTime s) → ⊥
 unfolding afterTime finishedOf finishedTriplet afterWrite writeNumber bytesOf powerOn goodParameter accepted bare level slot onFitted fitted all
 zero-written h =
     false≢true
-    (ap (λ (s : Bridge). s .dir)
+    (ap (λ (s : Bridge). s .registers .status .dir)
     (h (afterWrite (0x78 ∷ 0 ∷ []) powerOn) (write (0x78 ∷ 0 ∷ []) (bytes-two 0x78 0 (lit< tt) (lit< tt)) on) false refl))
 
 pub triplet : (d : Bool) (s : Bridge) → tripletBy chosen d s ≡ finishedTriplet d s

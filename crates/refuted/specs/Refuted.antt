@@ -28,7 +28,7 @@ pub record Refuted : Type 0 where
   pub readerRefuses : (f : List ℕ → ℕ) → ((p : List ℕ) → readingOf p ≡ Refused (f p)) → ⊥
   -- "A fixed list or fixed status byte"
   pub listFixed : (l : ℕ → List ℕ) → Meets (callOf (fixedList l)) → ⊥
-  pub statusFixed : (v : ℕ) → ((s : Bridge) → Reached s → s .pointer ≡ Status → readOf s ≡ v) → ⊥
+  pub statusFixed : (v : ℕ) → ((s : Bridge) → Reached s → s .registers .pointer ≡ Status → readOf s ≡ v) → ⊥
   -- "A bridge that acknowledges and does nothing"
   pub writeLazy : ((x : List ℕ) → Bytes x → (s : Bridge) → Reached s → afterWrite x s ≡ s) → ⊥
   pub timeLazy : ((s : Bridge) → Reached s → afterTime s ≡ s) → ⊥
@@ -45,8 +45,8 @@ pub record Refuted : Type 0 where
   -- "One pass more after the last, which starts the list again"
   pub listAgain : Meets (callOf startsAgain) → ⊥
   -- "Clearing RST at a 1-Wire reset"
-  pub rstCleared : ((s : Bridge) → Reached s → s .pending ≡ Reset → clearsRst s ≡ afterTime s) → ⊥
+  pub rstCleared : ((s : Bridge) → Reached s → s .registers .pending ≡ Reset → clearsRst s ≡ afterTime s) → ⊥
   -- "Writing 0 after levels 1,1"
-  pub zeroWritten : ((s : Bridge) → Reached s → (d : Bool) → s .pending ≡ Triplet d → tripletBy zeroAfterOnes d s ≡ afterTime s) → ⊥
+  pub zeroWritten : ((s : Bridge) → Reached s → (d : Bool) → s .registers .pending ≡ Triplet d → tripletBy zeroAfterOnes d s ≡ afterTime s) → ⊥
   -- "Sending CRC-16 uninverted"
   pub crcPlain : ((q : Request) → uninverted q ≡ packetOf q) → ⊥

@@ -24,7 +24,7 @@ use Rattle.checksum.specs.Register.{crc16Of}
 use Rattle.line.specs.Line.{level, slot, present, resetAll}
 use Rattle.bridge.specs.declared.Bridge.{Bridge}
 use Rattle.bridge.specs.declared.Pending.the-variants.{Nothing}
-use Rattle.bridge.specs.Bridge.{command, finished}
+use Rattle.bridge.specs.Bridge.{command, finished, withLevels}
 use Rattle.pass.specs.declared.Conflict.{Conflict}
 use Rattle.pass.specs.declared.Conflict.the-variants.{Nowhere, At}
 use Rattle.pass.specs.declared.Walk.{Walk}
@@ -115,10 +115,11 @@ module _ (note : Bool → Bool → Bool → ℕ → Conflict → Conflict) where
   tripledBy i c k w =
       let s = command (0x78 ∷ tripletByte (direction i c k) ∷ []) (w .bridge) in
       let t = tookTriplet k s w in
+      let shown = s .registers .status in
       record {
         bridge = s;
         id = t .id;
-        conflict = note (s .sbr) (s .tsb) (s .dir) k (w .conflict);
+        conflict = note (shown .sbr) (shown .tsb) (shown .dir) k (w .conflict);
         silent = t .silent;
       }
 
@@ -131,7 +132,7 @@ module _ (note : Bool → Bool → Bool → ℕ → Conflict → Conflict) where
   searchedBy (suc b) i c s =
       let r = command (0xB4 ∷ []) s in
       let w = walkedBy 64 0 i c (begun (command (0xA5 ∷ 0xF0 ∷ []) r)) in
-      cond (r .ppd)
+      cond (r .registers .status .ppd)
       (cond (w .silent) (silenced (w .bridge)) (continued (w .conflict) w (searchedBy b (w .id) (w .conflict) (w .bridge))))
       (absent r)
 
@@ -168,16 +169,10 @@ startsAgain b s = onceMore b (search b s)
 -- Clearing RST at a 1-Wire reset.
 abbrev pub clearsRst : Bridge → Bridge
 clearsRst s =
+    let r = s .registers in
+    let t = r .status in
     record {
-      dir = s .dir;
-      tsb = s .tsb;
-      sbr = s .sbr;
-      rst = false;
-      ppd = present (s .line);
-      configuration = s .configuration;
-      pointer = s .pointer;
-      readout = s .readout;
-      pending = Nothing;
+      registers = finished (record { dir = t .dir; tsb = t .tsb; sbr = t .sbr; rst = false; ppd = present (s .line) }) (r .readout) r;
       line = resetAll (s .line);
     }
 
@@ -192,7 +187,8 @@ tripletBy choose d s =
     let first = level true (s .line) in
     let second = level true l1 in
     let w = choose first second d in
-    finished w second first (s .ppd) (s .readout) (slot w l2) s
+    let r = s .registers in
+    record { registers = finished (withLevels w second first (r .status)) (r .readout) r; line = slot w l2 }
 
 -- ---- packets
 

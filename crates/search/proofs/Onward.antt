@@ -65,15 +65,15 @@ module _ (allowed n i : ℕ) (c : Conflict) (b : Bridge) (p : List ℕ) (counted
         left : allowed - n ≡ suc (allowed - (n + 1))
         left = omega arith
 
-    pub onward-absent : r .ppd ≡ false → onward p (searched (allowed - n) i c b) ≡ record { ids = p; passes = n + 1; complete = true; silent = false; bridge = r }
+    pub onward-absent : r .registers .status .ppd ≡ false → onward p (searched (allowed - n) i c b) ≡ record { ids = p; passes = n + 1; complete = true; silent = false; bridge = r }
     onward-absent e =
         one-more
-        ∙ ap (onward p) (searched-absent (allowed - (n + 1)) i c b (ap (λ (v : Bridge). v .ppd) (sym reset) ∙ e))
+        ∙ ap (onward p) (searched-absent (allowed - (n + 1)) i c b (ap (λ (v : Bridge). v .registers .status .ppd) (sym reset) ∙ e))
         ∙ result-path true false (append-nil p) (omega arith) (sym reset)
 
-    module _ (present : r .ppd ≡ true) {w : Walk} (walk : w ≡ passed i c r) where
-      there : command (0xB4 ∷ []) b .ppd ≡ true
-      there = ap (λ (v : Bridge). v .ppd) (sym reset) ∙ present
+    module _ (present : r .registers .status .ppd ≡ true) {w : Walk} (walk : w ≡ passed i c r) where
+      there : command (0xB4 ∷ []) b .registers .status .ppd ≡ true
+      there = ap (λ (v : Bridge). v .registers .status .ppd) (sym reset) ∙ present
 
       ends : next i c b ≡ w
       ends = ap (passed i c) (sym reset) ∙ sym walk

@@ -75,7 +75,7 @@ fn passes(allowed: usize, start: Bridge) -> Found
     while count < allowed {
         let bytes = [Bridge::ONE_WIRE_RESET];
         bridge = pass::command(bridge, &bytes);
-        if !bridge.ppd {
+        if !bridge.registers.status.ppd {
             return Found::complete(ids, count, count + 1, bridge);
         }
         let walk = pass::pass(previous, last, bridge);

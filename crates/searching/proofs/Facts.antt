@@ -72,7 +72,7 @@ search-absent : (m : ℕ) (b : Bridge) → b .line .count ≡ 0 → search (suc 
 unfolding search
 search-absent m b none =
     searched-absent m 0 Nowhere (command (0xF0 ∷ []) b)
-    (reset-ppd (command (0xF0 ∷ []) b) (ap (λ (r : Bridge). r .pending) (command-deviceReset b))
+    (reset-ppd (command (0xF0 ∷ []) b) (ap (λ (r : Bridge). r .registers .pending) (command-deviceReset b))
     ∙ ap (λ (r : Bridge). ltb 0 (r .line .count)) (command-deviceReset b)
     ∙ le-ltb 0 (b .line .count) (omega arith))
 

@@ -18,7 +18,7 @@ use Rattle.line.specs.Line.{idOf, onFitted, slot, level, resetAll, slots}
 use Rattle.bridge.specs.declared.Pending.{Pending}
 use Rattle.bridge.specs.declared.Pending.the-variants.{Nothing, Reset, SingleBit, WriteByte, ReadByte, Triplet}
 use Rattle.bridge.specs.declared.Bridge.{Bridge}
-use Rattle.bridge.specs.Bridge.{accepted, writeNumber, afterWrite, finishedOf, finishedReset, finishedBit, finishedWrite, finishedRead, finishedTriplet, afterTime, command}
+use Rattle.bridge.specs.Bridge.{accepted, withRegisters, writeNumber, afterWrite, finishedOf, finishedReset, finishedBit, finishedWrite, finishedRead, finishedTriplet, afterTime, command}
 use Rattle.searching.proofs.Words.{Rest, Holds}
 use Rattle.searching.proofs.Wire.{onFitted-lineOf}
 
@@ -83,7 +83,7 @@ module _ {ids : List ℕ} {rest : Rest} where
   -- time passing
   pub holds-time : (b : Bridge) → Holds ids rest (b .line) → Holds ids rest (afterTime b .line)
   unfolding afterTime finishedOf finishedReset finishedBit finishedWrite finishedRead finishedTriplet
-  holds-time b h = go (b .pending)
+  holds-time b h = go (b .registers .pending)
     where
       go : (p : Pending) → Holds ids rest (finishedOf p b .line)
       go Nothing = h
@@ -94,23 +94,13 @@ module _ {ids : List ℕ} {rest : Rest} where
       go (Triplet d) = holds-slot _ (holds-slot true (holds-slot true h))
 
 -- a write leaves the line
-cond-line : (l : Line) (t : Bool) (a b : Bridge) → a .line ≡ l → b .line ≡ l → cond t a b .line ≡ l
-cond-line l true a b p q = p
-cond-line l false a b p q = q
-
-commanded-line : (c x : ℕ) (b : Bridge) → accepted c x b .line ≡ b .line
-unfolding accepted
-commanded-line c x b =
-    cond-line (b .line) (eqb c 0xF0) _ _ refl
-    (cond-line (b .line) (eqb c 0xE1) _ _ refl
-    (cond-line (b .line) (eqb c 0xD2) _ _ refl
-    (cond-line (b .line) (eqb c 0xB4) _ _ refl
-    (cond-line (b .line) (eqb c 0x87) _ _ refl
-    (cond-line (b .line) (eqb c 0xA5) _ _ refl (cond-line (b .line) (eqb c 0x96) _ _ refl refl))))))
-
 pub write-line : (x : List ℕ) (b : Bridge) → afterWrite x b .line ≡ b .line
 unfolding afterWrite
-write-line x b = cond-line (b .line) (eqb (writeNumber x b) 0) _ _ (commanded-line (getD x 0 0) (getD x 1 0) b) refl
+write-line x b = go (eqb (writeNumber x b) 0)
+  where
+    go : (t : Bool) → cond t (withRegisters (accepted (getD x 0 0) (getD x 1 0) (b .registers)) b) b .line ≡ b .line
+    go true = refl
+    go false = refl
 
 pub holds-command : {ids : List ℕ} {rest : Rest} (x : List ℕ) (b : Bridge) → Holds ids rest (b .line) → Holds ids rest (command x b .line)
 unfolding command

@@ -52,7 +52,7 @@ follows x k j = refl
 
 module _ (ids : List ℕ) (rest : Rest) (there : has ids 0 0 ≡ true) where
   module _ (i : ℕ) (c : Conflict) (b : Bridge) (t : Idle ids rest b) where
-    presence : command (0xB4 ∷ []) b .ppd ≡ true
+    presence : command (0xB4 ∷ []) b .registers .status .ppd ≡ true
     presence =
         reset-ppd b (t .idle)
         ∙ ap (λ (l : Line). ltb 0 (l .count)) (t .holds .line)

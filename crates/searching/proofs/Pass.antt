@@ -20,7 +20,7 @@ use Rattle.line.specs.Line.{level, slot, idOf, resetAll, present, slots}
 use Rattle.bridge.specs.declared.Bridge.{Bridge}
 use Rattle.bridge.specs.declared.Pending.the-variants.{Nothing, Triplet}
 use Rattle.bridge.proofs.Effects.{command-reset, command-write, command-triplet}
-use Rattle.bridge.specs.Bridge.{isPending, busy, pended, chosen, finishedReset, finishedWrite, finishedTriplet, command}
+use Rattle.bridge.specs.Bridge.{isPending, busy, pended, withRegisters, chosen, finishedReset, finishedWrite, finishedTriplet, command}
 use Rattle.pass.specs.declared.Conflict.{Conflict}
 use Rattle.pass.specs.declared.Conflict.the-variants.{Nowhere, At}
 use Rattle.pass.specs.declared.Walk.{Walk}
@@ -33,11 +33,11 @@ use Rattle.searching.proofs.Wire.{first-slot, second-slot, third-slot, 
 -- ---- a triplet on the bridge
 
 -- with nothing pending the bridge is not busy
-free : (b : Bridge) → b .pending ≡ Nothing → busy b ≡ false
+free : (b : Bridge) → b .registers .pending ≡ Nothing → busy b ≡ false
 free b idle = ap isPending idle
 
 -- the direction goes through the parameter's bit 7
-command-direction : (b : Bridge) → b .pending ≡ Nothing → (d : Bool) → command (0x78 ∷ tripletByte d ∷ []) b ≡ finishedTriplet d (pended (Triplet d) b)
+command-direction : (b : Bridge) → b .registers .pending ≡ Nothing → (d : Bool) → command (0x78 ∷ tripletByte d ∷ []) b ≡ finishedTriplet d (withRegisters (pended (Triplet d) (b .registers)) b)
 command-direction b idle true = command-triplet b (free b idle) 128
 command-direction b idle false = command-triplet b (free b idle) 0
 
@@ -63,9 +63,9 @@ noted-conflictAt h d k a c = go (h (suc k) (child false k a)) (h (suc k) (child 
 
 module _ (ids : List ℕ) (rest : Rest) (d : ℕ → Bool) (k a : ℕ) (within : k < 64) (below : a < 2 ^ k) (b : Bridge) (line : b .line ≡ lineOf (map (standing k a) ids) rest) where
   after : Bridge
-  after = finishedTriplet (d k) (pended (Triplet (d k)) b)
+  after = finishedTriplet (d k) (withRegisters (pended (Triplet (d k)) (b .registers)) b)
 
-  triplet-sbr : after .sbr ≡ not (has ids (suc k) (child false k a))
+  triplet-sbr : after .registers .status .sbr ≡ not (has ids (suc k) (child false k a))
   unfolding after finishedTriplet
   triplet-sbr = ap (level true) line ∙ first-level k a below ids rest within
 
@@ -73,11 +73,11 @@ module _ (ids : List ℕ) (rest : Rest) (d : ℕ → Bool) (k a : ℕ) (within :
   first-line : slot true (b .line) ≡ lineOf (map (stand Second k a) ids) rest
   first-line = ap (slot true) line ∙ first-slot k a below ids rest within
 
-  triplet-tsb : after .tsb ≡ not (has ids (suc k) (child true k a))
+  triplet-tsb : after .registers .status .tsb ≡ not (has ids (suc k) (child true k a))
   unfolding after finishedTriplet
   triplet-tsb = ap (level true) first-line ∙ second-level k a below ids rest
 
-  triplet-dir : after .dir ≡ branch (has ids) d k a
+  triplet-dir : after .registers .status .dir ≡ branch (has ids) d k a
   unfolding after finishedTriplet
   triplet-dir = ap₂ (λ (x y : Bool). chosen x y (d k)) triplet-sbr triplet-tsb ∙ chosen-branch (has ids) d k a
 
@@ -150,7 +150,7 @@ module _ (ids : List ℕ) (rest : Rest) (i : ℕ) (c : Conflict) where
     tripled-conflict : tookTriplet k shown w .conflict ≡ onto (conflictAt (has ids) (direction i c) k a) (w .conflict)
     unfolding tookTriplet shown
     tripled-conflict =
-        ap₂ (λ (x y : Bool). noted x y (shown .dir) k (w .conflict))
+        ap₂ (λ (x y : Bool). noted x y (shown .registers .status .dir) k (w .conflict))
         (triplet-sbr ids rest (direction i c) k a within below (w .bridge) (u .line))
         (triplet-tsb ids rest (direction i c) k a within below (w .bridge) (u .line))
         ∙ ap
@@ -188,18 +188,18 @@ module _ (ids : List ℕ) (rest : Rest) (i : ℕ) (c : Conflict) where
 
 -- ---- a 1-Wire Reset, and a ROM command
 
-pub reset-ppd : (b : Bridge) → b .pending ≡ Nothing → command (0xB4 ∷ []) b .ppd ≡ ltb 0 (b .line .count)
+pub reset-ppd : (b : Bridge) → b .registers .pending ≡ Nothing → command (0xB4 ∷ []) b .registers .status .ppd ≡ ltb 0 (b .line .count)
 unfolding finishedReset present
-reset-ppd b idle = ap (λ (r : Bridge). r .ppd) (command-reset b (free b idle))
+reset-ppd b idle = ap (λ (r : Bridge). r .registers .status .ppd) (command-reset b (free b idle))
 
-module _ (b : Bridge) (ps : List Probe) (rest : Rest) (line : b .line ≡ lineOf ps rest) (idle : b .pending ≡ Nothing) where
+module _ (b : Bridge) (ps : List Probe) (rest : Rest) (line : b .line ≡ lineOf ps rest) (idle : b .registers .pending ≡ Nothing) where
   pub reset-line : command (0xB4 ∷ []) b .line ≡ lineOf (map reset ps) rest
   unfolding finishedReset
   reset-line = ap (λ (r : Bridge). r .line) (command-reset b (free b idle)) ∙ ap resetAll line ∙ resetAll-lineOf ps rest
 
-  pub reset-idle : command (0xB4 ∷ []) b .pending ≡ Nothing
+  pub reset-idle : command (0xB4 ∷ []) b .registers .pending ≡ Nothing
   unfolding finishedReset
-  reset-idle = ap (λ (r : Bridge). r .pending) (command-reset b (free b idle))
+  reset-idle = ap (λ (r : Bridge). r .registers .pending) (command-reset b (free b idle))
 
   -- all probes obey the byte written after the reset
   pub commanded-line : (x : ℕ) → command (0xA5 ∷ x ∷ []) (command (0xB4 ∷ []) b) .line ≡ lineOf (map (obeyed (gathered 8 x 0)) ps) rest
@@ -209,9 +209,9 @@ module _ (b : Bridge) (ps : List Probe) (rest : Rest) (line : b .line ≡ lineOf
       ∙ ap (slots 8 x) reset-line
       ∙ slots-reset x ps rest
 
-  pub commanded-idle : (x : ℕ) → command (0xA5 ∷ x ∷ []) (command (0xB4 ∷ []) b) .pending ≡ Nothing
+  pub commanded-idle : (x : ℕ) → command (0xA5 ∷ x ∷ []) (command (0xB4 ∷ []) b) .registers .pending ≡ Nothing
   unfolding finishedWrite
-  commanded-idle x = ap (λ (r : Bridge). r .pending) (command-write (command (0xB4 ∷ []) b) (free (command (0xB4 ∷ []) b) reset-idle) x)
+  commanded-idle x = ap (λ (r : Bridge). r .registers .pending) (command-write (command (0xB4 ∷ []) b) (free (command (0xB4 ∷ []) b) reset-idle) x)
 
 -- ---- a pass
 

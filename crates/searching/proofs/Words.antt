@@ -71,7 +71,7 @@ onto (some k) c = At k
 
 pub record Under (ids : List ℕ) (rest : Rest) (k a : ℕ) (w : Walk) : Type 0 where
   pub line : w .bridge .line ≡ lineOf (map (standing k a) ids) rest
-  pub idle : w .bridge .pending ≡ Nothing
+  pub idle : w .bridge .registers .pending ≡ Nothing
   pub path : w .id ≡ a
   pub neverSilent : w .silent ≡ false
 
@@ -82,7 +82,7 @@ pub record Holds (ids : List ℕ) (rest : Rest) (l : Line) : Type 0 where
 
 pub record Idle (ids : List ℕ) (rest : Rest) (b : Bridge) : Type 0 where
   pub holds : Holds ids rest (b .line)
-  pub idle : b .pending ≡ Nothing
+  pub idle : b .registers .pending ≡ Nothing
 
 -- ---- the passes
 
@@ -101,4 +101,4 @@ pub record Facts (ids : List ℕ) (rest : Rest) (l : List ℕ) (m : ℕ) (r : Re
   pub whole : r .complete ≡ (leb 1 m && leb (length l) m)
   pub neverSilent : r .silent ≡ false
   pub holds : Holds ids rest (r .bridge .line)
-  pub closing : (p : List ℕ) (x : ℕ) → r .ids ≡ p ++ x ∷ [] → (r .bridge .line ≡ lineOf (map (standing 64 x) ids) rest) × (r .bridge .pending ≡ Nothing)
+  pub closing : (p : List ℕ) (x : ℕ) → r .ids ≡ p ++ x ∷ [] → (r .bridge .line ≡ lineOf (map (standing 64 x) ids) rest) × (r .bridge .registers .pending ≡ Nothing)

@@ -52,7 +52,7 @@ module _ (s : List ℕ) (k : ℕ) (b : Bridge) where
       simp (ne-eqb (kindAt s k) 0 w, ne-eqb (kindAt s k) 1 r, ne-eqb (kindAt s k) 2 t)
       (ap₂ (λ (y : ℕ) (z : Bridge). record { letter = 0x46; value = decimal y; bridge = z }) (sym number) (sym state))
 
-pub afterTime-idle : (b : Bridge) → b .pending ≡ Nothing → b ≡ afterTime b
+pub afterTime-idle : (b : Bridge) → b .registers .pending ≡ Nothing → b ≡ afterTime b
 unfolding afterTime finishedOf
 afterTime-idle b none = ap (λ (p : Pending). finishedOf p b) (sym none)
 

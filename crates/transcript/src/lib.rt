@@ -131,7 +131,8 @@ fn lines(script: &[u8], out: &mut [u8]) -> usize
             script::READ => at = text::put_byte(out, next, bridge.read()),
             script::WAIT => {
                 at = text::put_number(out, next, b'T', 0);
-                let pending = bridge.pending;
+                let registers = bridge.registers;
+                let pending = registers.pending;
                 match pending {
                     Pending::Nothing => {}
                     _ => bridge = bridge.wait(),

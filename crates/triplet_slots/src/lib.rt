@@ -8,9 +8,13 @@ use probe::Condition;
 use probe::Probe;
 use probe::Slot;
 ghost use mathlib.Core.Path.{_≡_};
-ghost use mathlib.Core.Bool.{true};
+ghost use mathlib.Core.Bool.{true, false};
 ghost use Rattle.line.specs.Line.{all, fitted, onFitted, level, slot};
-ghost use Rattle.triplet_slots.specs.After.{sendsAfter, sendsAfterTwo, tookTwo, tookThree, goesOn};
+ghost use Rattle.probe.specs.Probe.{agrees, withMark};
+ghost use Rattle.triplet_slots.specs.After.{sendsAfter, sendsAfterTwo, tookTwo, tookThree};
+
+// The number of an ID's last bit.
+const LAST_BIT: u8 = 63;
 
 // The levels of two slots.
 pub struct TwoLevels {
@@ -111,23 +115,30 @@ fn all_send_after_two(line: Line, first: bool, second: bool) -> bool
     true
 }
 
-// A probe that searches at this bit goes on to the next one after a third slot of this level.
-fn goes_on(p: Probe, bit: u8, level: bool) -> bool
-    ensures { λ r. ⌜ r ≡ goesOn bit level p ⌝ }
+// The third level is the probe's own bit.
+fn agrees(p: Probe, bit: u8, level: bool) -> bool
+    ensures { λ r. ⌜ r ≡ agrees level (p .id) bit ⌝ }
 {
-    if bit < 63 {
-        if identity::bit(p.id, bit) {
-            level
-        } else {
-            !level
-        }
+    if identity::bit(p.id, bit) {
+        level
     } else {
-        false
+        !level
     }
 }
 
-// Every probe takes three levels, one after the other. One that goes on searching is stored by an assignment of its own, since one place
-// that stores what several ways have made waits for the memory.
+// The same probe in another condition, its mark set or as it was.
+fn turned(p: Probe, marked: bool, condition: Condition) -> Probe
+    ensures { λ r. ⌜ r ≡ withMark p marked condition ⌝ }
+{
+    Probe {
+        id: p.id,
+        marked,
+        condition,
+    }
+}
+
+// Every probe takes three levels, one after the other. Each outcome of one that searches has an assignment of its own, since one place that
+// stores what several ways have made waits for the memory.
 fn taken_three(mut line: Line, first: bool, second: bool, third: bool) -> Line
     ensures { λ r. ⌜ r ≡ onFitted (tookThree first second third) line ⌝ }
 {
@@ -142,17 +153,21 @@ fn taken_three(mut line: Line, first: bool, second: bool, third: bool) -> Line
             match condition {
                 Condition::Searching { bit, slot } => match slot {
                     Slot::First => {
-                        if goes_on(p, bit, third) {
-                            line.probes[at] = Probe {
-                                id: p.id,
-                                marked: p.marked,
-                                condition: Condition::Searching {
-                                    bit: bit + 1,
-                                    slot: Slot::First,
-                                },
-                            };
+                        if agrees(p, bit, third) {
+                            if bit < LAST_BIT {
+                                line.probes[at] = turned(
+                                    p,
+                                    p.marked,
+                                    Condition::Searching {
+                                        bit: bit + 1,
+                                        slot: Slot::First,
+                                    },
+                                );
+                            } else {
+                                line.probes[at] = turned(p, true, Condition::Selected);
+                            }
                         } else {
-                            line.probes[at] = took_three(p, first, second, third);
+                            line.probes[at] = turned(p, p.marked, Condition::Deaf);
                         }
                     }
                     _ => line.probes[at] = took_three(p, first, second, third),
@@ -164,10 +179,67 @@ fn taken_three(mut line: Line, first: bool, second: bool, third: bool) -> Line
     line
 }
 
+// What two slots come to in which the bridge writes 1, where it is settled before they begin: every probe rests or is in the first slot
+// of a search.
+struct Prospect {
+    settled: bool,
+    first: bool,
+    second: bool,
+}
+
+fn open() -> Prospect
+    ensures { λ r. ⌜ r .settled ≡ false ⌝ }
+{
+    Prospect {
+        settled: false,
+        first: false,
+        second: false,
+    }
+}
+
+fn outlook(line: Line) -> Prospect
+    ensures { λ r. ⌜ (r .settled ≡ true → (r .first ≡ level true line) × (r .second ≡ level true (slot true line))) ⌝ }
+{
+    let n = line.entries();
+    let mut first = true;
+    let mut second = true;
+    let mut i = 0;
+    while i < n {
+        let p = line.probes[i];
+        i += 1;
+        if !p.rests() {
+            let condition = p.condition;
+            let Condition::Searching { bit, slot } = condition else {
+                return open();
+            };
+            let Slot::First = slot else {
+                return open();
+            };
+            if identity::bit(p.id, bit) {
+                second = false;
+            } else {
+                first = false;
+            }
+        }
+    }
+    Prospect {
+        settled: true,
+        first,
+        second,
+    }
+}
+
 // The levels of two slots in which the bridge writes 1.
 pub fn two_levels(line: Line) -> TwoLevels
     ensures { λ r. ⌜ (r .first ≡ level true line) × (r .second ≡ level true (slot true line)) ⌝ }
 {
+    let ahead = outlook(line);
+    if ahead.settled {
+        return TwoLevels {
+            first: ahead.first,
+            second: ahead.second,
+        };
+    }
     let first = line.level(true);
     let second = all_send_after(line, first);
     TwoLevels { first, second }

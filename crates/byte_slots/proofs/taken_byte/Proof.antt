@@ -1,12 +1,17 @@
 -- `byte_slots::taken_byte` meets its contract: the entries gone through have taken the byte, those that rest too, whom it does not change.
-use mathlib.Core.Path.{_≡_, refl, sym, _∙_, ap}
-use Prim.Native.Nat.{ℕ, _≤_, _-_}
+use mathlib.Core.Path.{_≡_, refl, sym, ap, _∙_}
+use mathlib.Core.Bool.{true}
+use Prim.Native.Nat.{ℕ, _+_, _-_, _≤_, _<_}
 use native.Mathlib.Omega.{arith}
+use lib.ListN.{getD}
 use borrow.Author.Needs.{needs}
-use borrow.Author.Tests.{not-false}
-use Rattle.line.proofs.Steps.{after, after-next, after-kept, after-all}
+use Rattle.probe.specs.declared.Condition.the-variants.{Taking}
+use Rattle.probe.specs.declared.Probe.{Probe}
+use Rattle.probe.specs.Probe.{obeyed, rests, restsIn}
+use Rattle.line.specs.declared.Line.{Line}
+use Rattle.line.proofs.Steps.{after, with-entry, after-next, after-kept, after-all}
 use Rattle.byte_slots.specs.Foresight.{tookBits}
-use Rattle.byte_slots.proofs.Whole.{tookBits-rests, sending-next}
+use Rattle.byte_slots.proofs.Whole.{tookBits-rests, sending-next, sending-last, taking-whole}
 use Rattle.byte_slots.proofs.taken_byte.Statement.{statement}
 use Rattle.byte_slots.proofs.taken_byte.Tie as tie
 
@@ -15,6 +20,43 @@ Inv-loop byte line₀ n i₀ line i = (i ≤ n) × (line ≡ after (tookBits 8 b
 
 abbrev μ-loop : tie.MeasureT-loop
 μ-loop byte line₀ n i₀ line i = n - i
+
+-- where a turn has read its probe
+abbrev Z : Type 0
+Z = tie.After-p Inv-loop μ-loop
+
+abbrev byte-of : Z → ℕ
+byte-of z = z .before .before .before .before .args .byte
+
+-- the turn's probe; d is what a place past the table's end would read as
+abbrev probe-of : Z → Probe → Probe
+probe-of z d = getD (z .before .before .loop .line .probes) (z .before .before .loop .i) d
+
+-- the next turn may begin with the line m
+abbrev Again : Z → Line → Type 0
+Again z m =
+    let i = z .before .before .loop .i in
+    (i + 1 ≤ z .before .before .before .entries .result) × (m ≡ after (tookBits 8 (byte-of z)) (i + 1) (z .before .before .before .before .args .t1))
+
+-- the turn has stored p
+abbrev Stored : Z → Probe → Type 0
+Stored z p = Again z (with-entry (z .before .before .loop .line) (z .before .before .loop .i) p)
+
+-- the turn has left its probe as it was
+left : (z : Z) (d : Probe) → rests (probe-of z d) ≡ true → Again z (z .before .before .loop .line)
+left z d resting =
+    let l = z .before .before .loop in
+    (omega arith, after-kept _ _ (l .line) (l .i) d (omega arith) (l .inv .1) (tookBits-rests 8 (byte-of z) _ resting))
+
+stored : (z : Z) (d : Probe) {p : Probe} → p ≡ tookBits 8 (byte-of z) (probe-of z d) → Stored z p
+stored z d e =
+    let l = z .before .before .loop in (omega arith, after-next _ _ (l .line) (l .i) d _ (omega arith) (l .inv .1) e)
+
+-- no bit of a code has come yet
+obeys : (z : Z) (d : Probe) (code : ℕ) {p : Probe} {k c : ℕ}
+    → probe-of z d .condition ≡ Taking k c → k ≡ 0 → c < 256 → byte-of z ≡ code → p ≡ obeyed code (probe-of z d) → Stored z p
+obeys z d code {k = k} {c = c} e first low same o =
+    stored z d (o ∙ sym (taking-whole k c (byte-of z) code (probe-of z d) e first low (omega arith) same))
 
 entries-requires : tie.Need-entries-requires Inv-loop μ-loop
 entries-requires c κs = search needs
@@ -31,37 +73,38 @@ element-copy-out-p c = omega arith
 add-i : tie.Need-add-i Inv-loop μ-loop
 add-i c = omega arith
 
-rests-requires : tie.Need-rests-requires Inv-loop μ-loop
-rests-requires c κs = search needs
-
-enum-known-condition : tie.Need-enum-known-condition Inv-loop μ-loop
-enum-known-condition c = search needs
-
-add-t18 : tie.Need-add-t18 Inv-loop μ-loop
-add-t18 c = omega arith
-
-mul-t21 : tie.Need-mul-t21 Inv-loop μ-loop
-mul-t21 c = omega arith
-
-element-set-from-line : tie.Need-element-set-from-line Inv-loop μ-loop
-element-set-from-line c = omega arith
+enum-told : tie.Need-enum-told Inv-loop μ-loop
+enum-told c = search needs
 
 loop-less : tie.Need-loop-less Inv-loop μ-loop
 loop-less c = omega arith
 
 loop-again : tie.Need-loop-again Inv-loop μ-loop
-loop-again c =
-    let found = c .before .before in
-    let l = found .before .before .before .before .before .before .loop in
-    let a = found .before .before .before .before .before .before .before .before .args in
-    let k = found .condition .given .0 .0 in (
-      omega arith,
-      after-next (tookBits 8 (a .byte)) (a .t1) (l .line) (l .i) _ _ (omega arith) (l .inv .1)
-          (sym (sending-next 8 k (a .byte) _ (found .condition .given .1) (omega arith))),
-    )
+unfolding rests restsIn
+loop-again c = left (c .before .before) _ (ap restsIn (c .enum-told .given .1))
 
-took-byte-requires : tie.Need-took-byte-requires Inv-loop μ-loop
-took-byte-requires c κs = search needs
+enum-known-condition : tie.Need-enum-known-condition Inv-loop μ-loop
+enum-known-condition c = search needs
+
+begun-requires : tie.Need-begun-requires Inv-loop μ-loop
+begun-requires c κs = search needs
+
+mul-t20 : tie.Need-mul-t20 Inv-loop μ-loop
+mul-t20 c = omega arith
+
+element-set-from-line : tie.Need-element-set-from-line Inv-loop μ-loop
+element-set-from-line c = omega arith
+
+loop-less-2 : tie.Need-loop-less-2 Inv-loop μ-loop
+loop-less-2 c = omega arith
+
+loop-again-2 : tie.Need-loop-again-2 Inv-loop μ-loop
+unfolding obeyed
+loop-again-2 c =
+    obeys (c .before .before .before .before .before .before) _ 0x33 (c .before .before .before .before .condition .given .1) (c .before .before .match2 .keys1) (omega arith) (c .before .match3 .keys1) (c .begun .ensures)
+
+begun-requires-2 : tie.Need-begun-requires-2 Inv-loop μ-loop
+begun-requires-2 c κs = search needs
 
 mul-t25 : tie.Need-mul-t25 Inv-loop μ-loop
 mul-t25 c = omega arith
@@ -69,44 +112,162 @@ mul-t25 c = omega arith
 element-set-from-line-2 : tie.Need-element-set-from-line-2 Inv-loop μ-loop
 element-set-from-line-2 c = omega arith
 
-loop-less-2 : tie.Need-loop-less-2 Inv-loop μ-loop
-loop-less-2 c = omega arith
-
-loop-again-2 : tie.Need-loop-again-2 Inv-loop μ-loop
-loop-again-2 c =
-    let l = c .before .before .before .before .before .before .before .before .before .loop in
-    let a = c .before .before .before .before .before .before .before .before .before .before .before .args in
-    (omega arith, after-next (tookBits 8 (a .byte)) (a .t1) (l .line) (l .i) _ (c .took-byte .result) (omega arith) (l .inv .1) (c .took-byte .ensures))
-
-took-byte-requires-2 : tie.Need-took-byte-requires-2 Inv-loop μ-loop
-took-byte-requires-2 c κs = search needs
-
-mul-t29 : tie.Need-mul-t29 Inv-loop μ-loop
-mul-t29 c = omega arith
-
-element-set-from-line-3 : tie.Need-element-set-from-line-3 Inv-loop μ-loop
-element-set-from-line-3 c = omega arith
-
 loop-less-3 : tie.Need-loop-less-3 Inv-loop μ-loop
 loop-less-3 c = omega arith
 
 loop-again-3 : tie.Need-loop-again-3 Inv-loop μ-loop
+unfolding obeyed
 loop-again-3 c =
-    let l = c .before .before .before .before .before .before .loop in
-    let a = c .before .before .before .before .before .before .before .before .args in
-    (omega arith, after-next (tookBits 8 (a .byte)) (a .t1) (l .line) (l .i) _ (c .took-byte2 .result) (omega arith) (l .inv .1) (c .took-byte2 .ensures))
+    obeys (c .before .before .before .before .before .before) _ 0x55 (c .before .before .before .before .condition .given .1) (c .before .before .match2 .keys1) (omega arith) (c .before .match3 .keys2) (c .begun2 .ensures)
+
+begun-requires-3 : tie.Need-begun-requires-3 Inv-loop μ-loop
+begun-requires-3 c κs = search needs
+
+mul-t31 : tie.Need-mul-t31 Inv-loop μ-loop
+mul-t31 c = omega arith
+
+element-set-from-line-3 : tie.Need-element-set-from-line-3 Inv-loop μ-loop
+element-set-from-line-3 c = omega arith
 
 loop-less-4 : tie.Need-loop-less-4 Inv-loop μ-loop
 loop-less-4 c = omega arith
 
 loop-again-4 : tie.Need-loop-again-4 Inv-loop μ-loop
+unfolding obeyed
 loop-again-4 c =
-    let l = c .before .before .before .before .loop in
-    let a = c .before .before .before .before .before .before .args in
-    let resting = sym (c .before .rests .ensures) ∙ not-false _ (c .if1 .left) in (
-      omega arith,
-      after-kept (tookBits 8 (a .byte)) (a .t1) (l .line) (l .i) _ (omega arith) (l .inv .1) (tookBits-rests 8 (a .byte) _ resting),
-    )
+    obeys (c .before .before .before .before .before .before) _ 0xF0 (c .before .before .before .before .condition .given .1) (c .before .before .match2 .keys1) (omega arith) (c .before .match3 .keys3) (c .begun3 .ensures)
+
+obeyed-requires : tie.Need-obeyed-requires Inv-loop μ-loop
+obeyed-requires c κs = search needs
+
+mul-t35 : tie.Need-mul-t35 Inv-loop μ-loop
+mul-t35 c = omega arith
+
+element-set-from-line-4 : tie.Need-element-set-from-line-4 Inv-loop μ-loop
+element-set-from-line-4 c = omega arith
+
+loop-less-5 : tie.Need-loop-less-5 Inv-loop μ-loop
+loop-less-5 c = omega arith
+
+loop-again-5 : tie.Need-loop-again-5 Inv-loop μ-loop
+loop-again-5 c =
+    obeys (c .before .before .before .before .before .before) _ _ (c .before .before .before .before .condition .given .1) (c .before .before .match2 .keys1) (omega arith) refl (c .obeyed .ensures)
+
+took-bits-requires : tie.Need-took-bits-requires Inv-loop μ-loop
+took-bits-requires c κs = search needs
+
+mul-t39 : tie.Need-mul-t39 Inv-loop μ-loop
+mul-t39 c = omega arith
+
+element-set-from-line-5 : tie.Need-element-set-from-line-5 Inv-loop μ-loop
+element-set-from-line-5 c = omega arith
+
+loop-less-6 : tie.Need-loop-less-6 Inv-loop μ-loop
+loop-less-6 c = omega arith
+
+loop-again-6 : tie.Need-loop-again-6 Inv-loop μ-loop
+loop-again-6 c = stored (c .before .before .before .before .before) _ (c .took-bits .ensures)
+
+enum-known-condition-2 : tie.Need-enum-known-condition-2 Inv-loop μ-loop
+enum-known-condition-2 c = search needs
+
+add-t44 : tie.Need-add-t44 Inv-loop μ-loop
+add-t44 c = omega arith
+
+gone-on-requires : tie.Need-gone-on-requires Inv-loop μ-loop
+gone-on-requires c κs = search needs
+
+mul-t46 : tie.Need-mul-t46 Inv-loop μ-loop
+mul-t46 c = omega arith
+
+element-set-from-line-6 : tie.Need-element-set-from-line-6 Inv-loop μ-loop
+element-set-from-line-6 c = omega arith
+
+loop-less-7 : tie.Need-loop-less-7 Inv-loop μ-loop
+loop-less-7 c = omega arith
+
+loop-again-7 : tie.Need-loop-again-7 Inv-loop μ-loop
+loop-again-7 c =
+    let found = c .before .before .before .condition2 .given in
+    stored (c .before .before .before .before .before) _ (c .gone-on .ensures ∙ sym (sending-next 8 (found .0 .0) _ _ (found .1) (omega arith)))
+
+gone-on-requires-2 : tie.Need-gone-on-requires-2 Inv-loop μ-loop
+gone-on-requires-2 c κs = search needs
+
+mul-t51 : tie.Need-mul-t51 Inv-loop μ-loop
+mul-t51 c = omega arith
+
+element-set-from-line-7 : tie.Need-element-set-from-line-7 Inv-loop μ-loop
+element-set-from-line-7 c = omega arith
+
+loop-less-8 : tie.Need-loop-less-8 Inv-loop μ-loop
+loop-less-8 c = omega arith
+
+loop-again-8 : tie.Need-loop-again-8 Inv-loop μ-loop
+loop-again-8 c =
+    let found = c .before .before .before .before .condition2 .given in
+    stored (c .before .before .before .before .before .before) _ (c .gone-on2 .ensures ∙ sym (sending-last 7 (found .0 .0) _ _ (found .1) (omega arith)))
+
+took-bits-requires-2 : tie.Need-took-bits-requires-2 Inv-loop μ-loop
+took-bits-requires-2 c κs = search needs
+
+mul-t55 : tie.Need-mul-t55 Inv-loop μ-loop
+mul-t55 c = omega arith
+
+element-set-from-line-8 : tie.Need-element-set-from-line-8 Inv-loop μ-loop
+element-set-from-line-8 c = omega arith
+
+loop-less-9 : tie.Need-loop-less-9 Inv-loop μ-loop
+loop-less-9 c = omega arith
+
+loop-again-9 : tie.Need-loop-again-9 Inv-loop μ-loop
+loop-again-9 c = stored (c .before .before .before .before .before .before) _ (c .took-bits2 .ensures)
+
+enum-known-condition-3 : tie.Need-enum-known-condition-3 Inv-loop μ-loop
+enum-known-condition-3 c = search needs
+
+took-matching-requires : tie.Need-took-matching-requires Inv-loop μ-loop
+took-matching-requires c κs = search needs
+
+mul-t59 : tie.Need-mul-t59 Inv-loop μ-loop
+mul-t59 c = omega arith
+
+element-set-from-line-9 : tie.Need-element-set-from-line-9 Inv-loop μ-loop
+element-set-from-line-9 c = omega arith
+
+loop-less-10 : tie.Need-loop-less-10 Inv-loop μ-loop
+loop-less-10 c = omega arith
+
+loop-again-10 : tie.Need-loop-again-10 Inv-loop μ-loop
+loop-again-10 c = stored (c .before .before .before .before) _ (c .took-matching .ensures)
+
+enum-told-2 : tie.Need-enum-told-2 Inv-loop μ-loop
+enum-told-2 c = search needs
+
+took-bits-requires-3 : tie.Need-took-bits-requires-3 Inv-loop μ-loop
+took-bits-requires-3 c κs = search needs
+
+mul-t63 : tie.Need-mul-t63 Inv-loop μ-loop
+mul-t63 c = omega arith
+
+element-set-from-line-10 : tie.Need-element-set-from-line-10 Inv-loop μ-loop
+element-set-from-line-10 c = omega arith
+
+loop-less-11 : tie.Need-loop-less-11 Inv-loop μ-loop
+loop-less-11 c = omega arith
+
+loop-again-11 : tie.Need-loop-again-11 Inv-loop μ-loop
+loop-again-11 c = stored (c .before .before .before) _ (c .took-bits3 .ensures)
+
+enum-told-3 : tie.Need-enum-told-3 Inv-loop μ-loop
+enum-told-3 c = search needs
+
+loop-less-12 : tie.Need-loop-less-12 Inv-loop μ-loop
+loop-less-12 c = omega arith
+
+loop-again-12 : tie.Need-loop-again-12 Inv-loop μ-loop
+unfolding rests restsIn
+loop-again-12 c = left (c .before .before) _ (ap restsIn (c .enum-told3 .given .1))
 
 returns : tie.Need-returns Inv-loop μ-loop
 returns c =
@@ -128,23 +289,65 @@ taken-byte-spec =
     mul-p
     element-copy-out-p
     add-i
-    rests-requires
-    enum-known-condition
-    add-t18
-    mul-t21
-    element-set-from-line
+    enum-told
     loop-less
     loop-again
-    took-byte-requires
-    mul-t25
-    element-set-from-line-2
+    enum-known-condition
+    begun-requires
+    mul-t20
+    element-set-from-line
     loop-less-2
     loop-again-2
-    took-byte-requires-2
-    mul-t29
-    element-set-from-line-3
+    begun-requires-2
+    mul-t25
+    element-set-from-line-2
     loop-less-3
     loop-again-3
+    begun-requires-3
+    mul-t31
+    element-set-from-line-3
     loop-less-4
     loop-again-4
+    obeyed-requires
+    mul-t35
+    element-set-from-line-4
+    loop-less-5
+    loop-again-5
+    took-bits-requires
+    mul-t39
+    element-set-from-line-5
+    loop-less-6
+    loop-again-6
+    enum-known-condition-2
+    add-t44
+    gone-on-requires
+    mul-t46
+    element-set-from-line-6
+    loop-less-7
+    loop-again-7
+    gone-on-requires-2
+    mul-t51
+    element-set-from-line-7
+    loop-less-8
+    loop-again-8
+    took-bits-requires-2
+    mul-t55
+    element-set-from-line-8
+    loop-less-9
+    loop-again-9
+    enum-known-condition-3
+    took-matching-requires
+    mul-t59
+    element-set-from-line-9
+    loop-less-10
+    loop-again-10
+    enum-told-2
+    took-bits-requires-3
+    mul-t63
+    element-set-from-line-10
+    loop-less-11
+    loop-again-11
+    enum-told-3
+    loop-less-12
+    loop-again-12
     returns)

@@ -19,7 +19,7 @@ use Rattle.search.proofs.search.Tie as tie
 
 table : (c : tie.Start) → length (c .args .bridge .line .probes) ≡ 64
 table c =
-    sym (length-map (c .args .bridge .line .probes) _) ∙ c .good .0 .1 .1 .1 .1 .1 .1 .1 .1 .1 .1 .1 .0 .1 .1 .0 .1 .0 .1
+    sym (length-map (c .args .bridge .line .probes) _) ∙ c .good .0 .1 .1 .1 .0 .1 .1 .0 .1 .0 .1
 
 -- what was found is what the definition says
 found : (c : tie.After-all) → let s = c .before .before .before .before in searchOf (s .args .b) (s .args .bridge) ≡ resultOf (c .all .result)

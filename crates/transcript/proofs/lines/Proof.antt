@@ -146,10 +146,10 @@ loop-less-3 c = omega arith
 
 loop-again-3 : tie.Need-loop-again-3 Inv-loop μ-loop
 loop-again-3 c =
-    let p = c .before .before .before .before .put-number2 in
-    let z = c .before .before .before .before .before .before .before in
+    let p = c .before .before .before .before .before .put-number2 in
+    let z = c .before .before .before .before .before .before .before .before in
     let l = z .before .before .before .before .before .before .before .before .loop in
-    let wait = sym (z .before .before .event-at .ensures .kind-is) ∙ c .before .before .before .before .before .before .match .keys3 in
+    let wait = sym (z .before .before .event-at .ensures .kind-is) ∙ c .before .before .before .before .before .before .before .match .keys3 in
     turn z (record { letter = 0x54; value = decimal 0; bridge = l .bridge }) (p .last .0) (p .result)
     (step-wait (script-of z) (l .place) (l .bridge) (l .bridge) wait (afterTime-idle (l .bridge) (c .enum-told .given .1))) (p .ensures)
 
@@ -161,10 +161,10 @@ loop-less-4 c = omega arith
 
 loop-again-4 : tie.Need-loop-again-4 Inv-loop μ-loop
 loop-again-4 c =
-    let p = c .before .before .before .before .put-number2 in
-    let z = c .before .before .before .before .before .before .before in
+    let p = c .before .before .before .before .before .put-number2 in
+    let z = c .before .before .before .before .before .before .before .before in
     let l = z .before .before .before .before .before .before .before .before .loop in
-    let wait = sym (z .before .before .event-at .ensures .kind-is) ∙ c .before .before .before .before .before .before .match .keys3 in
+    let wait = sym (z .before .before .event-at .ensures .kind-is) ∙ c .before .before .before .before .before .before .before .match .keys3 in
     turn z (record { letter = 0x54; value = decimal 0; bridge = c .wait .result }) (p .last .0) (p .result)
     (step-wait (script-of z) (l .place) (l .bridge) (c .wait .result) wait (c .wait .ensures)) (p .ensures)
 

@@ -1,14 +1,19 @@
 -- `triplet_slots::taken_three` meets its contract: the entries gone through have taken the three levels, those that rest too, whom they do
 -- not change.
 use mathlib.Core.Path.{_≡_, refl, sym, _∙_, ap}
-use Prim.Native.Nat.{ℕ, _≤_, _-_}
+use mathlib.Core.Bool.{Bool, true, false}
+use Prim.Native.Nat.{ℕ, _≤_, _+_, _-_}
 use native.Mathlib.Omega.{arith}
+use lib.Dec.{leb}
+use lib.ListN.{getD}
 use borrow.Author.Needs.{needs}
-use borrow.Author.Tests.{not-false}
+use borrow.Author.Tests.{not-false, le-leb, lt-leb}
 use Rattle.probe.specs.declared.Condition.the-variants.{Searching}
-use Rattle.line.proofs.Steps.{after, after-next, after-kept, after-all}
+use Rattle.probe.specs.declared.Probe.{Probe}
+use Rattle.probe.specs.Probe.{deafNew}
+use Rattle.line.proofs.Steps.{after, with-entry, after-next, after-kept, after-all}
 use Rattle.triplet_slots.specs.After.{tookThree}
-use Rattle.triplet_slots.proofs.After.{tookThree-rests, goes-on-below, goes-on-next}
+use Rattle.triplet_slots.proofs.After.{tookThree-rests, outcome, searching-outcome}
 use Rattle.triplet_slots.proofs.taken_three.Statement.{statement}
 use Rattle.triplet_slots.proofs.taken_three.Tie as tie
 
@@ -17,6 +22,37 @@ Inv-loop first second third line₀ n i₀ line i = (i ≤ n) × (line ≡ after
 
 abbrev μ-loop : tie.MeasureT-loop
 μ-loop first second third line₀ n i₀ line i = n - i
+
+-- what the loop does to an entry, the entry that it has come to, and one entry more
+abbrev taking : tie.In-loop Inv-loop μ-loop → Probe → Probe
+taking c =
+    let a = c .before .before .before .args in
+    tookThree (a .first) (a .second) (a .third)
+
+abbrev entry : tie.In-loop Inv-loop μ-loop → Probe
+entry c = getD (c .before .loop .line .probes) (c .before .loop .i) (deafNew 0)
+
+abbrev Next : tie.In-loop Inv-loop μ-loop → Probe → Type 0
+Next c q =
+    let l = c .before .loop in
+    (l .i + 1 ≤ c .before .before .entries .result) × (with-entry (l .line) (l .i) q ≡ after (taking c) (l .i + 1) (c .before .before .before .args .t1))
+
+next : (c : tie.In-loop Inv-loop μ-loop) (q : Probe) → q ≡ taking c (entry c) → Next c q
+next c q e =
+    let l = c .before .loop in
+    (omega arith, after-next (taking c) (c .before .before .before .args .t1) (l .line) (l .i) _ q (omega arith) (l .inv .1) e)
+
+-- the entry is in the first slot of a search
+searched : (c : tie.After-agrees Inv-loop μ-loop) (q : Probe) (s t : Bool) →
+    let at = c .before .before .before .before .before .before .before .before .before in
+    let k = c .before .before .before .before .condition .given .0 .0 in
+    q ≡ outcome k s t (entry at) → c .agrees .result ≡ s → leb 63 k ≡ t → Next at q
+searched c q s t e same last =
+    let at = c .before .before .before .before .before .before .before .before .before in
+    let a = at .before .before .before .args in
+    let found = c .before .before .before .before .condition .given in
+    let first = found .1 ∙ ap (Searching (found .0 .0)) (c .before .enum-told .given .1) in
+    next at q (e ∙ sym (searching-outcome (found .0 .0) (a .first) (a .second) (a .third) _ s t first (sym (c .agrees .ensures) ∙ same) last))
 
 entries-requires : tie.Need-entries-requires Inv-loop μ-loop
 entries-requires c κs = search needs
@@ -42,17 +78,17 @@ enum-known-condition c = search needs
 enum-told : tie.Need-enum-told Inv-loop μ-loop
 enum-told c = search needs
 
-goes-on-requires : tie.Need-goes-on-requires Inv-loop μ-loop
-goes-on-requires c κs = search needs
+agrees-requires : tie.Need-agrees-requires Inv-loop μ-loop
+agrees-requires c κs = search needs
 
-add-t21 : tie.Need-add-t21 Inv-loop μ-loop
-add-t21 c =
-    let gone = c .before in
-    let found = gone .before .before .before .before in
-    omega (arith, goes-on-below (found .condition .given .0 .0) _ (sym (gone .goes-on .ensures) ∙ c .if2 .taken))
+add-t23 : tie.Need-add-t23 Inv-loop μ-loop
+add-t23 c = omega arith
 
-mul-t25 : tie.Need-mul-t25 Inv-loop μ-loop
-mul-t25 c = omega arith
+turned-requires : tie.Need-turned-requires Inv-loop μ-loop
+turned-requires c κs = search needs
+
+mul-t26 : tie.Need-mul-t26 Inv-loop μ-loop
+mul-t26 c = omega arith
 
 element-set-from-line : tie.Need-element-set-from-line Inv-loop μ-loop
 element-set-from-line c = omega arith
@@ -61,23 +97,13 @@ loop-less : tie.Need-loop-less Inv-loop μ-loop
 loop-less c = omega arith
 
 loop-again : tie.Need-loop-again Inv-loop μ-loop
-loop-again c =
-    let gone = c .before in
-    let found = gone .before .before .before .before in
-    let l = found .before .before .before .before .before .before .loop in
-    let a = found .before .before .before .before .before .before .before .before .args in
-    let k = found .condition .given .0 .0 in
-    let first = found .condition .given .1 ∙ ap (Searching k) (gone .before .enum-told .given .1) in (
-      omega arith,
-      after-next (tookThree (a .first) (a .second) (a .third)) (a .t1) (l .line) (l .i) _ _ (omega arith) (l .inv .1)
-          (sym (goes-on-next k (a .first) (a .second) (a .third) _ first (sym (gone .goes-on .ensures) ∙ c .if2 .taken))),
-    )
+loop-again c = searched (c .before .before .before) _ true false (c .turned .ensures) (c .before .before .if2 .taken) (lt-leb 63 _ (c .before .if3 .taken))
 
-took-three-requires : tie.Need-took-three-requires Inv-loop μ-loop
-took-three-requires c κs = search needs
+turned-requires-2 : tie.Need-turned-requires-2 Inv-loop μ-loop
+turned-requires-2 c κs = search needs
 
-mul-t29 : tie.Need-mul-t29 Inv-loop μ-loop
-mul-t29 c = omega arith
+mul-t31 : tie.Need-mul-t31 Inv-loop μ-loop
+mul-t31 c = omega arith
 
 element-set-from-line-2 : tie.Need-element-set-from-line-2 Inv-loop μ-loop
 element-set-from-line-2 c = omega arith
@@ -86,16 +112,13 @@ loop-less-2 : tie.Need-loop-less-2 Inv-loop μ-loop
 loop-less-2 c = omega arith
 
 loop-again-2 : tie.Need-loop-again-2 Inv-loop μ-loop
-loop-again-2 c =
-    let l = c .before .before .before .before .before .before .before .before .before .before .before .before .loop in
-    let a = c .before .before .before .before .before .before .before .before .before .before .before .before .before .before .args in
-    (omega arith, after-next (tookThree (a .first) (a .second) (a .third)) (a .t1) (l .line) (l .i) _ (c .took-three .result) (omega arith) (l .inv .1) (c .took-three .ensures))
+loop-again-2 c = searched (c .before .before .before) _ true true (c .turned2 .ensures) (c .before .before .if2 .taken) (le-leb 63 _ (c .before .if3 .left))
 
-took-three-requires-2 : tie.Need-took-three-requires-2 Inv-loop μ-loop
-took-three-requires-2 c κs = search needs
+turned-requires-3 : tie.Need-turned-requires-3 Inv-loop μ-loop
+turned-requires-3 c κs = search needs
 
-mul-t33 : tie.Need-mul-t33 Inv-loop μ-loop
-mul-t33 c = omega arith
+mul-t36 : tie.Need-mul-t36 Inv-loop μ-loop
+mul-t36 c = omega arith
 
 element-set-from-line-3 : tie.Need-element-set-from-line-3 Inv-loop μ-loop
 element-set-from-line-3 c = omega arith
@@ -104,16 +127,13 @@ loop-less-3 : tie.Need-loop-less-3 Inv-loop μ-loop
 loop-less-3 c = omega arith
 
 loop-again-3 : tie.Need-loop-again-3 Inv-loop μ-loop
-loop-again-3 c =
-    let l = c .before .before .before .before .before .before .before .before .before .loop in
-    let a = c .before .before .before .before .before .before .before .before .before .before .before .args in
-    (omega arith, after-next (tookThree (a .first) (a .second) (a .third)) (a .t1) (l .line) (l .i) _ (c .took-three2 .result) (omega arith) (l .inv .1) (c .took-three2 .ensures))
+loop-again-3 c = searched (c .before .before) _ false _ (c .turned3 .ensures) (c .before .if2 .left) refl
 
-took-three-requires-3 : tie.Need-took-three-requires-3 Inv-loop μ-loop
-took-three-requires-3 c κs = search needs
+took-three-requires : tie.Need-took-three-requires Inv-loop μ-loop
+took-three-requires c κs = search needs
 
-mul-t37 : tie.Need-mul-t37 Inv-loop μ-loop
-mul-t37 c = omega arith
+mul-t40 : tie.Need-mul-t40 Inv-loop μ-loop
+mul-t40 c = omega arith
 
 element-set-from-line-4 : tie.Need-element-set-from-line-4 Inv-loop μ-loop
 element-set-from-line-4 c = omega arith
@@ -122,22 +142,34 @@ loop-less-4 : tie.Need-loop-less-4 Inv-loop μ-loop
 loop-less-4 c = omega arith
 
 loop-again-4 : tie.Need-loop-again-4 Inv-loop μ-loop
-loop-again-4 c =
-    let l = c .before .before .before .before .before .before .loop in
-    let a = c .before .before .before .before .before .before .before .before .args in
-    (omega arith, after-next (tookThree (a .first) (a .second) (a .third)) (a .t1) (l .line) (l .i) _ (c .took-three3 .result) (omega arith) (l .inv .1) (c .took-three3 .ensures))
+loop-again-4 c = next (c .before .before .before .before .before .before .before .before) _ (c .took-three .ensures)
+
+took-three-requires-2 : tie.Need-took-three-requires-2 Inv-loop μ-loop
+took-three-requires-2 c κs = search needs
+
+mul-t44 : tie.Need-mul-t44 Inv-loop μ-loop
+mul-t44 c = omega arith
+
+element-set-from-line-5 : tie.Need-element-set-from-line-5 Inv-loop μ-loop
+element-set-from-line-5 c = omega arith
 
 loop-less-5 : tie.Need-loop-less-5 Inv-loop μ-loop
 loop-less-5 c = omega arith
 
 loop-again-5 : tie.Need-loop-again-5 Inv-loop μ-loop
-loop-again-5 c =
-    let l = c .before .before .before .before .loop in
-    let a = c .before .before .before .before .before .before .args in
-    let resting = sym (c .before .rests .ensures) ∙ not-false _ (c .if1 .left) in (
-      omega arith,
-      after-kept (tookThree (a .first) (a .second) (a .third)) (a .t1) (l .line) (l .i) _ (omega arith) (l .inv .1) (tookThree-rests (a .first) (a .second) (a .third) _ resting),
-    )
+loop-again-5 c = next (c .before .before .before .before .before) _ (c .took-three2 .ensures)
+
+loop-less-6 : tie.Need-loop-less-6 Inv-loop μ-loop
+loop-less-6 c = omega arith
+
+loop-again-6 : tie.Need-loop-again-6 Inv-loop μ-loop
+loop-again-6 c =
+    let at = c .before .before .before in
+    let l = at .before .loop in
+    let a = at .before .before .before .args in
+    let resting = sym (c .before .rests .ensures) ∙ not-false _ (c .if1 .left) in
+    let same = tookThree-rests (a .first) (a .second) (a .third) _ resting in
+    (omega arith, after-kept (taking at) (a .t1) (l .line) (l .i) _ (omega arith) (l .inv .1) same)
 
 returns : tie.Need-returns Inv-loop μ-loop
 returns c =
@@ -162,27 +194,33 @@ taken-three-spec =
     rests-requires
     enum-known-condition
     enum-told
-    goes-on-requires
-    add-t21
-    mul-t25
+    agrees-requires
+    add-t23
+    turned-requires
+    mul-t26
     element-set-from-line
     loop-less
     loop-again
-    took-three-requires
-    mul-t29
+    turned-requires-2
+    mul-t31
     element-set-from-line-2
     loop-less-2
     loop-again-2
-    took-three-requires-2
-    mul-t33
+    turned-requires-3
+    mul-t36
     element-set-from-line-3
     loop-less-3
     loop-again-3
-    took-three-requires-3
-    mul-t37
+    took-three-requires
+    mul-t40
     element-set-from-line-4
     loop-less-4
     loop-again-4
+    took-three-requires-2
+    mul-t44
+    element-set-from-line-5
     loop-less-5
     loop-again-5
+    loop-less-6
+    loop-again-6
     returns)

@@ -14,7 +14,7 @@ finished-requires c κs = search needs
 returns : tie.Need-returns
 unfolding finishedBit
 returns c =
-    let s = c .before .before .slot .ensures in simp (c .finished .ensures, s .0, s .1) refl
+    let s = c .before .before .before .slot .ensures in simp (c .finished .ensures, s .0, s .1) refl
 
 pub finished-bit-spec : {M : Type 1} → statement M
 finished-bit-spec = tie.close (tie.spec slot-requires finished-requires returns)

@@ -13,7 +13,7 @@ finished-requires c κs = search needs
 returns : tie.Need-returns
 unfolding finishedRead
 returns c =
-    let s = c .before .before .slots .ensures in simp (c .finished .ensures, s .0, s .1)
+    let s = c .before .before .before .slots .ensures in simp (c .finished .ensures, s .0, s .1)
 
 pub finished-read-spec : {M : Type 1} → statement M
 finished-read-spec = tie.close (tie.spec slots-requires finished-requires returns)

@@ -8,16 +8,17 @@ use Rattle.bridge.proofs.Bridge.finished_reset.Tie as tie
 present-requires : tie.Need-present-requires
 present-requires c κs = search needs
 
-reset-requires : tie.Need-reset-requires
-reset-requires c κs = search needs
-
 finished-requires : tie.Need-finished-requires
 finished-requires c κs = search needs
 
+reset-requires : tie.Need-reset-requires
+reset-requires c κs = search needs
+
 returns : tie.Need-returns
 unfolding finishedReset
-returns c = simp (c .finished .ensures, c .before .reset .ensures, c .before .before .present .ensures) refl
+returns c =
+    simp (c .reset .ensures, c .before .finished .ensures, c .before .before .present .ensures) refl
 
 pub finished-reset-spec : {M : Type 1} → statement M
 finished-reset-spec =
-    tie.close (tie.spec present-requires reset-requires finished-requires returns)
+    tie.close (tie.spec present-requires finished-requires reset-requires returns)

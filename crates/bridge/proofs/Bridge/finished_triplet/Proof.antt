@@ -1,7 +1,7 @@
 -- `Bridge::finished_triplet` meets its contract: two write-one slots by their levels, then the slot of the bit chosen.
 use Rattle.bridge.specs.Bridge.{finishedTriplet}
-use borrow.Author.Needs.{needs}
 use Rattle.triplet_slots.proofs.After.{second-slot}
+use borrow.Author.Needs.{needs}
 use Rattle.bridge.proofs.Bridge.finished_triplet.Statement.{statement}
 use Rattle.bridge.proofs.Bridge.finished_triplet.Tie as tie
 
@@ -11,21 +11,26 @@ two-levels-requires c κs = search needs
 chosen-requires : tie.Need-chosen-requires
 chosen-requires c κs = search needs
 
-slot-after-two-requires : tie.Need-slot-after-two-requires
-slot-after-two-requires c κs = search needs
-
 finished-requires : tie.Need-finished-requires
 finished-requires c κs = search needs
+
+slot-after-two-requires : tie.Need-slot-after-two-requires
+slot-after-two-requires c κs = search needs
 
 returns : tie.Need-returns
 unfolding finishedTriplet
 returns c =
-    let third = c .before in
-    let two = third .before .before .two-levels .ensures in
-    let l = third .before .before .before .before .args .self .line in
-    simp (c .finished .ensures, third .slot-after-two .ensures, third .before .chosen .ensures, two .0, two .1, ← second-slot l)
+    let chosen = c .before .before .before in
+    let two = chosen .before .two-levels .ensures in
+    let l = chosen .before .before .before .before .args .self .line in
+    simp (c .slot-after-two .ensures, c .before .finished .ensures, chosen .chosen .ensures, two .0, two .1, ← second-slot l)
 
 pub finished-triplet-spec : {M : Type 1} → statement M
 finished-triplet-spec =
     tie.close
-    (tie.spec two-levels-requires chosen-requires slot-after-two-requires finished-requires returns)
+    (tie.spec
+    two-levels-requires
+    chosen-requires
+    finished-requires
+    slot-after-two-requires
+    returns)

@@ -12,7 +12,8 @@ finished-requires c κs = search needs
 
 returns : tie.Need-returns
 unfolding finishedWrite
-returns c = simp (c .finished .ensures, c .before .before .slots .ensures .1)
+returns c =
+    simp (c .finished .ensures, c .before .before .before .slots .ensures .1)
 
 pub finished-write-spec : {M : Type 1} → statement M
 finished-write-spec = tie.close (tie.spec slots-requires finished-requires returns)

@@ -24,14 +24,14 @@ held-up-requires c κs = search needs
 
 returns-3 : tie.Need-returns-3
 returns-3 c =
-    let k = c .before .before in
+    let k = c .before .before .before in
     sym
     (writeNumber-busy _ _ (k .before .before .before .if1 .left) (k .before .bytes-of .ensures) (k .if2 .left)
     (c .before .held-up .ensures) (c .if3 .taken))
 
 returns-4 : tie.Need-returns-4
 returns-4 c =
-    let k = c .before .before .before in
+    let k = c .before .before .before .before in
     sym
     (writeNumber-length _ _ (k .before .before .before .if1 .left) (k .before .bytes-of .ensures) (k .if2 .left)
     (c .before .before .held-up .ensures) (c .before .if3 .left) (c .if4 .taken))
@@ -44,11 +44,11 @@ good-parameter-requires c κs = search needs
 
 -- every check but the last is passed
 last : (c : tie.After-good-parameter) →
-    let s = c .before .before .before .before .before .before .before .before .before .before in
+    let s = c .before .before .before .before .before .before .before .before .before .before .before in
     writeNumber (s .args .bytes .now) (s .args .self) ≡ cond (c .good-parameter .result) 0 8
 last c =
     let w = c .before .before in
-    let k = w .before .before .before in
+    let k = w .before .before .before .before in
     writeNumber-last _ _ (k .before .before .before .if1 .left) (k .before .bytes-of .ensures) (k .if2 .left)
     (w .before .before .held-up .ensures) (w .before .if3 .left) (w .if4 .left)
     (c .good-parameter .ensures ∙ ap (goodParameter _) (c .before .at .ensures))

@@ -1,8 +1,8 @@
--- `Bridge::held_up` meets its contract: each test picks the case of the definition.
+-- `Registers::held_up` meets its contract: each test picks the case of the definition.
 use mathlib.Core.Path.{sym, _∙_}
 use borrow.Author.Needs.{needs}
-use Rattle.bridge.proofs.Bridge.held_up.Statement.{statement}
-use Rattle.bridge.proofs.Bridge.held_up.Tie as tie
+use Rattle.bridge.proofs.Registers.held_up.Statement.{statement}
+use Rattle.bridge.proofs.Registers.held_up.Tie as tie
 
 busy-requires : tie.Need-busy-requires
 busy-requires c κs = search needs

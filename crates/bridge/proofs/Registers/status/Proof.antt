@@ -1,11 +1,11 @@
--- `Bridge::status` meets its contract: each bit adds its weight, and the weights are those of different bits of a byte.
+-- `Registers::status` meets its contract: each bit adds its weight, and the weights are those of different bits of a byte.
 use mathlib.Core.Path.{ap}
 use native.Mathlib.Omega.{arith}
 use Rattle.probe.specs.Probe.{digit}
 use Rattle.bridge.specs.Bridge.{statusOf}
 use borrow.Author.Needs.{needs}
-use Rattle.bridge.proofs.Bridge.status.Statement.{statement}
-use Rattle.bridge.proofs.Bridge.status.Tie as tie
+use Rattle.bridge.proofs.Registers.status.Statement.{statement}
+use Rattle.bridge.proofs.Registers.status.Tie as tie
 
 busy-requires : tie.Need-busy-requires
 busy-requires c κs = search needs
@@ -48,7 +48,7 @@ add-result-6 c = search needs
 
 returns : tie.Need-returns
 unfolding statusOf
-returns c = omega (arith, ap digit (c .before .before .before .before .before .before .busy .ensures))
+returns c = omega (arith, ap digit (c .before .before .before .before .before .before .before .busy .ensures))
 
 pub status-spec : {M : Type 1} → statement M
 status-spec =

@@ -1,7 +1,7 @@
--- `Bridge::set_pointer` meets its contract, by those of `pointed` and `changed`.
+-- `Registers::set_pointer` meets its contract, by those of `pointed` and `changed`.
 use borrow.Author.Needs.{needs}
-use Rattle.bridge.proofs.Bridge.set_pointer.Statement.{statement}
-use Rattle.bridge.proofs.Bridge.set_pointer.Tie as tie
+use Rattle.bridge.proofs.Registers.set_pointer.Statement.{statement}
+use Rattle.bridge.proofs.Registers.set_pointer.Tie as tie
 
 pointed-requires : tie.Need-pointed-requires
 pointed-requires c κs = search needs

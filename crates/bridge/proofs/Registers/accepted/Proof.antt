@@ -1,12 +1,12 @@
--- `Bridge::accepted` meets its contract, code by code.
+-- `Registers::accepted` meets its contract, code by code.
 use borrow.Author.Tests.{ne-eqb}
 use Rattle.bridge.specs.Bridge.{accepted}
 use borrow.Author.Needs.{needs}
-use Rattle.bridge.proofs.Bridge.accepted.Statement.{statement}
-use Rattle.bridge.proofs.Bridge.accepted.Tie as tie
+use Rattle.bridge.proofs.Registers.accepted.Statement.{statement}
+use Rattle.bridge.proofs.Registers.accepted.Tie as tie
 
-device-reset-requires : tie.Need-device-reset-requires
-device-reset-requires c κs = search needs
+cleared-requires : tie.Need-cleared-requires
+cleared-requires c κs = search needs
 
 set-pointer-requires : tie.Need-set-pointer-requires
 set-pointer-requires c κs = search needs
@@ -37,7 +37,7 @@ pended-requires-5 c κs = search needs
 
 returns : tie.Need-returns
 unfolding accepted
-returns c = simp (c .before .match .keys1) (c .device-reset .ensures)
+returns c = simp (c .before .match .keys1) (c .cleared .ensures)
 
 returns-2 : tie.Need-returns-2
 unfolding accepted
@@ -83,7 +83,7 @@ pub accepted-spec : {M : Type 1} → statement M
 accepted-spec =
     tie.close
     (tie.spec
-    device-reset-requires
+    cleared-requires
     set-pointer-requires
     configured-requires
     pended-requires
