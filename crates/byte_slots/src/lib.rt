@@ -1,7 +1,7 @@
 // The eight slots of a byte, in one go where that is the same as slot after slot.
 //
-// What a probe sends in the eight slots to come is mostly settled before they begin. Where it is for every probe, the levels are found
-// first and each probe takes all of them at once.
+// A line on which every probe rests is given back as it is. What a probe sends in the eight slots to come is mostly settled before they
+// begin. Where it is for every probe, the levels are found first and each probe takes all of them at once.
 //
 // Worked example: a line of two probes that send their IDs, the next eight bits of one being 3Fh and of the other F5h, reads as 35h.
 use line::Line;

@@ -179,15 +179,15 @@ fn taken_three(mut line: Line, first: bool, second: bool, third: bool) -> Line
     line
 }
 
-// What two slots come to in which the bridge writes 1, where it is settled before they begin: every probe rests or is in the first slot
-// of a search.
+// What two slots come to in which the bridge writes 1, where that is settled before they begin: every probe rests or is in the first
+// slot of a search.
 struct Prospect {
     settled: bool,
     first: bool,
     second: bool,
 }
 
-fn open() -> Prospect
+fn unsettled() -> Prospect
     ensures { λ r. ⌜ r .settled ≡ false ⌝ }
 {
     Prospect {
@@ -210,10 +210,10 @@ fn outlook(line: Line) -> Prospect
         if !p.rests() {
             let condition = p.condition;
             let Condition::Searching { bit, slot } = condition else {
-                return open();
+                return unsettled();
             };
             let Slot::First = slot else {
-                return open();
+                return unsettled();
             };
             if identity::bit(p.id, bit) {
                 second = false;

@@ -74,20 +74,20 @@ rests-requires c κs = search needs
 enum-known-condition : tie.Need-enum-known-condition Inv-loop μ-loop
 enum-known-condition c = search needs
 
-open-requires : tie.Need-open-requires Inv-loop μ-loop
-open-requires c κs = search needs
+unsettled-requires : tie.Need-unsettled-requires Inv-loop μ-loop
+unsettled-requires c κs = search needs
 
 returns : tie.Need-returns Inv-loop μ-loop
-returns c = λ e. absurd (false≢true (sym (c .«open» .ensures) ∙ e))
+returns c = λ e. absurd (false≢true (sym (c .unsettled .ensures) ∙ e))
 
 enum-told : tie.Need-enum-told Inv-loop μ-loop
 enum-told c = search needs
 
-open-requires-2 : tie.Need-open-requires-2 Inv-loop μ-loop
-open-requires-2 c κs = search needs
+unsettled-requires-2 : tie.Need-unsettled-requires-2 Inv-loop μ-loop
+unsettled-requires-2 c κs = search needs
 
 returns-2 : tie.Need-returns-2 Inv-loop μ-loop
-returns-2 c = λ e. absurd (false≢true (sym (c .open2 .ensures) ∙ e))
+returns-2 c = λ e. absurd (false≢true (sym (c .unsettled2 .ensures) ∙ e))
 
 bit-requires : tie.Need-bit-requires Inv-loop μ-loop
 bit-requires c κs = search needs
@@ -149,10 +149,10 @@ outlook-spec =
     add-i
     rests-requires
     enum-known-condition
-    open-requires
+    unsettled-requires
     returns
     enum-told
-    open-requires-2
+    unsettled-requires-2
     returns-2
     bit-requires
     loop-less
