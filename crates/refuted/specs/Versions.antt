@@ -23,7 +23,6 @@ use lib.ListN.{length, take, drop}
 use Rattle.checksum.specs.Register.{crc16Of}
 use Rattle.line.specs.Line.{level, slot, present, resetAll}
 use Rattle.bridge.specs.declared.Bridge.{Bridge}
-use Rattle.bridge.specs.declared.Pending.the-variants.{Nothing}
 use Rattle.bridge.specs.Bridge.{command, finished, withLevels}
 use Rattle.pass.specs.declared.Conflict.{Conflict}
 use Rattle.pass.specs.declared.Conflict.the-variants.{Nowhere, At}
