@@ -8,7 +8,7 @@
 --   demand           the demand, of the contract of search::search
 use mathlib.Core.Path.{_≡_, refl, sym, ap, ap₂, subst⁻¹, _∙_}
 use mathlib.Core.Bool.{_&&_}
-use mathlib.Core.List.{List, [], _∷_, _++_, append-nil, append-assoc}
+use mathlib.Core.List.{List, [], _∷_, _++_, append-nil}
 use denote.Ref.{RefT}
 use Prim.Native.Nat.{ℕ, suc, _+_, _*_, _/_, _%_, _<_, _≤_, min, max}
 use native.Mathlib.Decide.{decLe}
@@ -27,14 +27,14 @@ use Rattle.search.specs.declared.Answer.{Answer}
 use Rattle.search.specs.declared.Answer.the-variants.{Listed}
 use Rattle.search.specs.Search.{answerOf, answerNumber, answerValues, bytesFrom, listOf, bufferOf, bridgeOf}
 use Rattle.search.proofs.search.Reads as search-fn
-use Rattle.search.proofs.Bytes.{length-listOf}
-use Rattle.search.proofs.Call.{Answered, short, done}
+use Rattle.search.proofs.Bytes.{length-listOf, listOf-append}
+use Rattle.search.proofs.Call.{short, done}
 use Rattle.pass.specs.Passes.{search}
 use Rattle.enumeration.proofs.Order.{in-order-unique}
 use Rattle.demand.specs.Demand.{Outcome, Search, Done, bytesListed, idsAt, afterResume, Resumes, Demand, Meets}
 use Rattle.demand.specs.Contract.{Promised}
 use Rattle.demand.proofs.Reached.{reached-search}
-use Rattle.demand.proofs.Search.{order-of, order-is, listed-of, never-silent, number-of, complete-when, passes-used, longer-by, kept-ids, resume-kept, resume-last, at-most, fitting-one}
+use Rattle.demand.proofs.Search.{order-of, order-is, listed-of, number-of, complete-when, passes-used, longer-by, kept-ids, resume-kept, resume-last, at-most, fitting-one}
 
 -- ---- bytes
 
@@ -52,13 +52,6 @@ listed-bytes : (x : List ℕ) → Bytes x → length x ≡ 8 → listOf (numberO
 unfolding listOf
 listed-bytes x small eight =
     append-nil (bytesFrom 8 (numberOf x)) ∙ ap (λ (n : ℕ). bytesFrom n (numberOf x)) (sym eight) ∙ bytes-number x small
-
--- the bytes of two lists of IDs, one behind the other
-pub listOf-append : (p q : List ℕ) → listOf (p ++ q) ≡ listOf p ++ listOf q
-unfolding listOf
-listOf-append [] q = refl
-listOf-append (x ∷ p) q =
-    ap (λ (l : List ℕ). bytesFrom 8 x ++ l) (listOf-append p q) ∙ sym (append-assoc (bytesFrom 8 x) (listOf p) (listOf q))
 
 -- ---- the outcome, by the definitions
 
@@ -83,14 +76,10 @@ promised s b d o c =
 -- ---- an outcome from a state that calls reach
 
 module _ (s : Bridge) (r : Reached s) where
-  -- with room the call is done
-  settled : (b : ℕ) (d : List ℕ) → 8 * min b 64 ≤ length d → Answered b d s (Listed (length (search b s .ids)) (search b s .passes) (search b s .complete)) (search b s .bridge) (listOf (search b s .ids) ++ drop (length (listOf (search b s .ids))) d)
-  settled b d h = done b d s h (never-silent s r b)
-
   values-of : (b : ℕ) (d : List ℕ) → 8 * min b 64 ≤ length d → answerValues (answerOf b d s) ≡ min b (length (idsAt s)) ∷ min b (max 1 (length (idsAt s))) ∷ digit (leb 1 b && leb (length (idsAt s)) b) ∷ []
   values-of b d h =
       ap answerValues
-      (settled b d h .answer
+      (done b d s h .answer
       ∙ ap₂ (λ (x y : ℕ). Listed x y (search b s .complete)) (number-of s r b) (passes-used s r b)
       ∙ ap (Listed (min b (length (idsAt s))) (min b (max 1 (length (idsAt s))))) (complete-when s r b))
 
@@ -99,14 +88,14 @@ module _ (s : Bridge) (r : Reached s) where
 
   list-of : (b : ℕ) (d : List ℕ) → 8 * min b 64 ≤ length d → bufferOf b d s ≡ listOf (take b (order-of s r)) ++ drop (8 * min b (length (idsAt s))) d
   list-of b d h =
-      settled b d h .buffer
+      done b d s h .buffer
       ∙ ap₂ (λ (ids : List ℕ) (n : ℕ). listOf ids ++ drop n d) (listed-of s r b) (length-of b)
 
   -- the bytes listed are those of the IDs that the search found
   bytes-of : (b : ℕ) (d : List ℕ) (o : Outcome) → Done Exactly s b d o → bytesListed o ≡ listOf (search b s .ids)
   bytes-of b d o g =
       ap bytesListed (g .0)
-      ∙ ap₂ (λ (v l : List ℕ). take (8 * getD v 0 0) l) (values-of b d (g .1)) (settled b d (g .1) .buffer)
+      ∙ ap₂ (λ (v l : List ℕ). take (8 * getD v 0 0) l) (values-of b d (g .1)) (done b d s (g .1) .buffer)
       ∙ take-at (listOf (search b s .ids)) (drop (length (listOf (search b s .ids))) d) (8 * min b (length (idsAt s))) (length-of b)
 
   -- a refused search has left the bridge as it was, any other has run its commands
@@ -114,7 +103,7 @@ module _ (s : Bridge) (r : Reached s) where
   after P b d o kept moved g = subst⁻¹ P (ap (λ (x : Outcome). x .bridge) g) (go (decLe (8 * min b 64) (length d)))
     where
       go : Dec (8 * min b 64 ≤ length d) → P (bridgeOf b d s)
-      go (yes h) = subst⁻¹ P (settled b d h .state) moved
+      go (yes h) = subst⁻¹ P (done b d s h .state) moved
       go (no h) = subst⁻¹ P (short b d s (omega arith) .state) kept
 
   refused-of : (b : ℕ) (d : List ℕ) (o : Outcome) → Exactly s b d o → length d < 8 * min b 64 → (answerNumber (o .answer) ≡ 9) × (o .bridge ≡ s) × (o .list ≡ d)
@@ -141,7 +130,7 @@ module _ (s : Bridge) (r : Reached s) where
         last .0,
         last .1,
         e ∙ ap listOf (last .2),
-        subst⁻¹ (Resumes (last .1)) (ap (λ (x : Outcome). x .bridge) (g .0) ∙ settled b d (g .1) .state) (last .3),
+        subst⁻¹ (Resumes (last .1)) (ap (λ (x : Outcome). x .bridge) (g .0) ∙ done b d s (g .1) .state) (last .3),
       )
 
   kept-of : (b : ℕ) (d : List ℕ) (o : Outcome) → Exactly s b d o → (idsAt (o .bridge) ≡ idsAt s) × (idsAt (afterResume (o .bridge)) ≡ idsAt s)
@@ -174,7 +163,7 @@ exact s r =
       ordered = order-is s r;
       unique = λ l o. in-order-unique o (order-is s r);
       some = λ b d. (outcome s b d, refl);
-      done = λ b d o g. ap (λ (x : Outcome). answerNumber (x .answer)) (g .0) ∙ ap answerNumber (settled s r b d (g .1) .answer);
+      done = λ b d o g. ap (λ (x : Outcome). answerNumber (x .answer)) (g .0) ∙ ap answerNumber (done b d s (g .1) .answer);
       listed = λ b d o g. ap (λ (x : Outcome). x .list) (g .0) ∙ list-of s r b d (g .1);
       values = λ b d o g. ap (λ (x : Outcome). answerValues (x .answer)) (g .0) ∙ values-of s r b d (g .1);
       refused = refused-of s r;

@@ -29,7 +29,7 @@ use Rattle.pass.specs.declared.Conflict.{Conflict}
 use Rattle.pass.specs.declared.Conflict.the-variants.{Nowhere, At}
 use Rattle.pass.specs.declared.Walk.{Walk}
 use Rattle.pass.specs.Pass.{direction, tripletByte, tookTriplet, tripled, walked, passed}
-use Rattle.pass.specs.Passes.{Result, absent, silenced, continued, searched, search}
+use Rattle.pass.specs.Passes.{Result, absent, continued, searched, search}
 use Rattle.enumeration.specs.Order.{Among, Distinct, Narrow}
 use Rattle.searching.proofs.Words.{Rest, lineOf, Holds}
 use Rattle.searching.proofs.Words.Rest.{free}
@@ -213,14 +213,14 @@ reached-passed : (i : ℕ) (c : Conflict) {b : Bridge} → Reached b → Reached
 unfolding passed
 reached-passed i c {b} r =
     reached-walked 64 0 i c
-    (record { bridge = command (0xA5 ∷ 0xF0 ∷ []) b; id = 0; conflict = Nowhere; silent = false })
+    (record { bridge = command (0xA5 ∷ 0xF0 ∷ []) b; id = 0; conflict = Nowhere })
     (reached-byte 0xF0 (lit< tt) r)
 
 reached-searched : (m i : ℕ) (c : Conflict) (b : Bridge) → Reached b → Reached (searched m i c b .bridge)
 unfolding searched continued
 reached-searched zero i c b r = r
 reached-searched (suc m) i c b r =
-    go (reset .registers .status .ppd) (w .silent) (w .conflict) (searched m (w .id) (w .conflict) (w .bridge))
+    go (reset .registers .status .ppd) (w .conflict) (searched m (w .id) (w .conflict) (w .bridge))
     (reached-searched m (w .id) (w .conflict) (w .bridge) end)
   where
     reset : Bridge
@@ -232,11 +232,10 @@ reached-searched (suc m) i c b r =
     end : Reached (w .bridge)
     end = reached-passed i c (reached-reset r)
 
-    go : (t s : Bool) (q : Conflict) (rest : Result) → Reached (rest .bridge) → Reached (cond t (cond s (silenced (w .bridge)) (continued q w rest)) (absent reset) .bridge)
-    go true true q rest f = end
-    go true false Nowhere rest f = end
-    go true false (At k) rest f = f
-    go false s q rest f = reached-reset r
+    go : (t : Bool) (q : Conflict) (rest : Result) → Reached (rest .bridge) → Reached (cond t (continued q w rest) (absent reset) .bridge)
+    go true Nowhere rest f = end
+    go true (At k) rest f = f
+    go false q rest f = reached-reset r
 
 pub reached-search : (m : ℕ) {b : Bridge} → Reached b → Reached (search m b .bridge)
 unfolding search

@@ -121,10 +121,6 @@ module _ (s : Bridge) (r : Reached s) where
   pub listed-of : (b : ℕ) → search b s .ids ≡ take b order-of
   listed-of b = found b .listed
 
-  -- both levels 1 come in no pass that began with presence
-  pub never-silent : (b : ℕ) → search b s .silent ≡ false
-  never-silent b = found b .neverSilent
-
   pub number-of : (b : ℕ) → length (search b s .ids) ≡ min b (length (idsAt s))
   number-of b = ap length (found b .listed) ∙ length-take b order-of ∙ ap (min b) (order-is .once)
 

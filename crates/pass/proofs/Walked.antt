@@ -3,7 +3,6 @@
 --   walked-next    one triplet goes by, and one fewer is left
 --   walked-none    after bit 63 none is left
 use mathlib.Core.Path.{_≡_, sym, ap, ap₂, _∙_}
-use mathlib.Core.Bool.{Bool, true, cond}
 use mathlib.Core.List.{[], _∷_}
 use Prim.Native.Nat.{ℕ, suc, _+_, _-_, _*_, _^_, _<_}
 use native.Mathlib.Numerals.{add-one}
@@ -17,10 +16,9 @@ use Rattle.pass.specs.Pass.{direction, noted, tripletByte, tookTriplet, 
 
 module _ (i : ℕ) (c : Conflict) (k : ℕ) (w : Walk) where
   -- the bridge after the triplet shows the bit taken and the two levels
-  pub tripled-by : {b : Bridge} {j : ℕ} {q : Conflict} {n : Bool} → let s = b .registers .status in b ≡ command (0x78 ∷ tripletByte (direction i c k) ∷ []) (w .bridge) → j ≡ w .id + digit (s .dir) * 2 ^ k → q ≡ noted (s .sbr) (s .tsb) (s .dir) k (w .conflict) → n ≡ cond (s .sbr) (cond (s .tsb) true (w .silent)) (w .silent) → _≡_ {A = Walk} (record { bridge = b; id = j; conflict = q; silent = n }) (tripled i c k w)
+  pub tripled-by : {b : Bridge} {j : ℕ} {q : Conflict} → let s = b .registers .status in b ≡ command (0x78 ∷ tripletByte (direction i c k) ∷ []) (w .bridge) → j ≡ w .id + digit (s .dir) * 2 ^ k → q ≡ noted (s .sbr) (s .tsb) (s .dir) k (w .conflict) → _≡_ {A = Walk} (record { bridge = b; id = j; conflict = q }) (tripled i c k w)
   unfolding tripled tookTriplet
-  tripled-by {b} e f g h =
-      (λ r. record { bridge = b; id = f r; conflict = g r; silent = h r }) ∙ ap (λ (v : Bridge). tookTriplet k v w) e
+  tripled-by {b} e f g = (λ r. record { bridge = b; id = f r; conflict = g r }) ∙ ap (λ (v : Bridge). tookTriplet k v w) e
 
   pub walked-next : {v : Walk} → k < 64 → v ≡ tripled i c k w → walked (64 - k) k i c w ≡ walked (64 - (k + 1)) (k + 1) i c v
   unfolding walked

@@ -8,7 +8,7 @@
 --   begun b              the walk before its first triplet
 --   passed i c b         a pass from the bridge b on, where a probe is present
 use Prim.Native.Nat.{ℕ, zero, suc, _+_, _*_, _^_}
-use mathlib.Core.Bool.{Bool, true, false, cond}
+use mathlib.Core.Bool.{Bool, false, cond}
 use mathlib.Core.List.{[], _∷_}
 use lib.Dec.{eqb, ltb}
 use Rattle.identity.specs.Identity.{bitOf}
@@ -40,7 +40,6 @@ tookTriplet k b w =
       bridge = b;
       id = w .id + digit (s .dir) * 2 ^ k;
       conflict = noted (s .sbr) (s .tsb) (s .dir) k (w .conflict);
-      silent = cond (s .sbr) (cond (s .tsb) true (w .silent)) (w .silent);
     }
 
 unfoldable pub tripled : ℕ → Conflict → ℕ → Walk → Walk
@@ -52,7 +51,7 @@ walked (suc n) k i c w = walked n (suc k) i c (tripled i c k w)
 
 -- No bit has been taken yet.
 abbrev pub begun : Bridge → Walk
-begun b = record { bridge = b; id = 0; conflict = Nowhere; silent = false }
+begun b = record { bridge = b; id = 0; conflict = Nowhere }
 
 -- Write Byte F0h and 64 triplets.
 unfoldable pub passed : ℕ → Conflict → Bridge → Walk

@@ -1,7 +1,7 @@
 -- The passes of a search (document 01, "The search").
 --   Result               what a search comes to
---   absent s, exhausted s, silenced s    nothing is found: no presence; no pass left; levels 1,1
---   lastOne w, before i r              an ID is found: the last one, by the walk w; the ID i, and then what r says
+--   absent s, exhausted s   nothing is found: no presence; no pass left
+--   lastOne w, before i r   an ID is found: the last one, by the walk w; the ID i, and then what r says
 --   continued c w r      what a walk w with the last conflict c comes to, if the passes after it come to r
 --   searched b i c s     what at most b passes from the bridge s on come to
 --   search b s           what a search that is allowed b passes comes to: IDs, passes used, completeness, the bridge afterwards
@@ -15,34 +15,27 @@ use Rattle.pass.specs.declared.Conflict.the-variants.{Nowhere, At}
 use Rattle.pass.specs.declared.Walk.{Walk}
 use Rattle.pass.specs.Pass.{passed}
 
--- What a search comes to: the IDs in the order in which they were found, the passes used, whether it is complete, whether a pass that
--- began with presence met levels 1,1, and the bridge.
+-- What a search comes to: the IDs in the order in which they were found, the passes used, whether it is complete, and the bridge.
 pub record Result : Type 0 where
   pub ids : List ℕ
   pub passes : ℕ
   pub complete : Bool
-  pub silent : Bool
   pub bridge : Bridge
 
 -- A pass that finds no presence counts and completes the search.
 abbrev pub absent : Bridge → Result
-absent s = record { ids = []; passes = 1; complete = true; silent = false; bridge = s }
+absent s = record { ids = []; passes = 1; complete = true; bridge = s }
 
 -- No pass is left.
 abbrev pub exhausted : Bridge → Result
-exhausted s = record { ids = []; passes = 0; complete = false; silent = false; bridge = s }
-
--- A pass that met levels 1,1 ends the search.
-abbrev pub silenced : Bridge → Result
-silenced s = record { ids = []; passes = 1; complete = false; silent = true; bridge = s }
+exhausted s = record { ids = []; passes = 0; complete = false; bridge = s }
 
 -- A pass that ended at an ID: with no conflict the search is complete; with one, what the passes after it come to stands behind.
 abbrev pub lastOne : Walk → Result
-lastOne w = record { ids = w .id ∷ []; passes = 1; complete = true; silent = false; bridge = w .bridge }
+lastOne w = record { ids = w .id ∷ []; passes = 1; complete = true; bridge = w .bridge }
 
 abbrev pub before : ℕ → Result → Result
-before i r =
-    record { ids = i ∷ r .ids; passes = suc (r .passes); complete = r .complete; silent = r .silent; bridge = r .bridge }
+before i r = record { ids = i ∷ r .ids; passes = suc (r .passes); complete = r .complete; bridge = r .bridge }
 
 -- after a pass that ended with the conflict c: nothing more, or what `rest` says of the next passes
 unfoldable pub continued : Conflict → Walk → Result → Result
@@ -56,7 +49,7 @@ searched (suc b) i c s =
     let r = command (0xB4 ∷ []) s in
     let w = passed i c r in
     cond (r .registers .status .ppd)
-    (cond (w .silent) (silenced (w .bridge)) (continued (w .conflict) w (searched b (w .id) (w .conflict) (w .bridge))))
+    (continued (w .conflict) w (searched b (w .id) (w .conflict) (w .bridge)))
     (absent r)
 
 -- With no pass allowed nothing is issued; otherwise one Device Reset comes first.

@@ -2,15 +2,14 @@
 // calls with time passing after each.
 //
 // A pass asks at each bit for a direction, which the ID and the last conflict of the pass before it set. It gives back the bridge, the ID
-// at which it ended, its own last conflict, and whether both levels of a triplet were 1. specs/Pass.antt says what a pass is, and
-// specs/Passes.antt what the passes of a search come to.
+// at which it ended, and its own last conflict. specs/Pass.antt says what a pass is, and specs/Passes.antt what the passes of a search come
+// to.
 //
 // Worked example: with A, B and C fitted, the first pass asks for 0 at every bit, ends at C, and has its last conflict at bit 0; the second
 // takes 1 there and ends at B.
 use bridge::Bridge;
 use probe::SEARCH_ROM;
 ghost use mathlib.Core.Path.{_≡_};
-ghost use mathlib.Core.Bool.{cond, true, false};
 ghost use Prim.Native.Nat.{_+_, _*_, _^_, _<_};
 ghost use Rattle.probe.specs.Probe.{digit};
 ghost use Rattle.bridge.specs.Bridge.{command as commandOf};
@@ -22,12 +21,11 @@ pub enum Conflict {
     At { bit: u8 },
 }
 
-// A pass under way: the bridge, the bits taken so far as a number, the last conflict so far, and whether both levels of a triplet were 1.
+// A pass under way: the bridge, the bits taken so far as a number, and the last conflict so far.
 pub struct Walk {
     pub bridge: Bridge,
     pub id: u64,
     pub conflict: Conflict,
-    pub silent: bool,
 }
 
 // A write, and time passing.
@@ -77,17 +75,6 @@ fn noted(first: bool, second: bool, taken: bool, k: u8, conflict: Conflict) -> C
     Conflict::At { bit: k }
 }
 
-// Both levels were 1, now or before.
-fn silent_after(first: bool, second: bool, silent: bool) -> bool
-    ensures { λ r. ⌜ r ≡ cond first (cond second true silent) silent ⌝ }
-{
-    if first {
-        if second { true } else { silent }
-    } else {
-        silent
-    }
-}
-
 // The bits below k, and bit k.
 fn with_bit(id: u64, bit: bool, k: u8) -> u64
     requires { ⌜ (k < 64) × (id < 2 ^ k) ⌝ }
@@ -103,7 +90,6 @@ fn triplets(previous: u64, before: Conflict, start: Bridge) -> Walk
     let mut bridge = start;
     let mut id: u64 = 0;
     let mut conflict = Conflict::Nowhere;
-    let mut silent = false;
     let mut k: u8 = 0;
     while k < 64 {
         let asked = direction(previous, before, k);
@@ -113,14 +99,12 @@ fn triplets(previous: u64, before: Conflict, start: Bridge) -> Walk
         let status = registers.status;
         id = with_bit(id, status.dir, k);
         conflict = noted(status.sbr, status.tsb, status.dir, k, conflict);
-        silent = silent_after(status.sbr, status.tsb, silent);
         k += 1;
     }
     Walk {
         bridge,
         id,
         conflict,
-        silent,
     }
 }
 

@@ -1,3 +1,4 @@
 pub mod Steps
 pub mod Searches
+pub mod Levels
 pub mod Refuted

@@ -2,6 +2,7 @@
 use Rattle.refuted.specs.Refuted.{Refuted}
 use Rattle.refuted.proofs.Steps.{step-refuses, reader-refuses, status-fixed, write-lazy, time-lazy, rst-cleared, zero-written, triplet, crc-plain}
 use Rattle.refuted.proofs.Searches.{ours, rules, search-refuses, list-fixed, line-left, state-left, passes-made-up, passes-listed, numbers, one-noted, list-again}
+use Rattle.refuted.proofs.Levels.{presence-needed, search-needed}
 
 pub refuted : Refuted
 refuted =
@@ -26,4 +27,6 @@ refuted =
       rstCleared = rst-cleared;
       zeroWritten = zero-written;
       crcPlain = crc-plain;
+      presenceNeeded = presence-needed;
+      searchNeeded = search-needed;
     }

@@ -25,52 +25,46 @@ use Rattle.bridge.specs.Bridge.{finishedReset, finishedWrite, finishedTriplet, 
 use Rattle.bridge.specs.Reached.{Bytes, Reached}
 use Rattle.bridge.specs.Reached.Reached.{on, fit}
 use Rattle.pass.specs.Pass.{direction, noted, tookTriplet, tripled, walked, begun, passed}
-use Rattle.pass.specs.Passes.{Result, absent, silenced, continued, searched, search}
+use Rattle.pass.specs.Passes.{Result, absent, continued, searched, search}
 use Rattle.pass.specs.declared.Conflict.{Conflict}
 use Rattle.pass.specs.declared.Conflict.the-variants.{Nowhere}
 use Rattle.pass.specs.declared.Walk.{Walk}
-use Rattle.search.specs.declared.Answer.the-variants.{Listed, Refused}
-use Rattle.search.specs.Search.{answerValues, bytesFrom, listOf}
+use Rattle.search.specs.declared.Answer.the-variants.{Refused}
+use Rattle.search.specs.Search.{listed, answerValues, bytesFrom, listOf, written}
 use Rattle.search.proofs.Call.{short, done}
 use Rattle.search.proofs.Bytes.{length-listOf, getD-listOf}
 use Rattle.enumeration.specs.Order.{InOrder}
 use Rattle.paper.specs.Paper.{a, b, c, withOne}
 use Rattle.paper.proofs.Paper.{paper}
 use Rattle.demand.specs.Demand.{Outcome, Search, Done, bytesListed, idsAt, Resumed, Meets}
-use Rattle.demand.proofs.Search.{never-silent}
 use Rattle.demand.proofs.Demand.{outcome, outcome-path, Exactly, exact, fewer}
 use Rattle.refuted.specs.Versions.{outcomeWith, callOf, alwaysRefuses, fixedList, firstPassOnly, passesOf, passesAsListed, inserted, ascending, sortedAsNumbers, tripledBy, walkedBy, searchedBy, searchBy, notesOne, onceMore, startsAgain}
 
 -- ---- the frame
 
 -- with the library's own passes it is the library's outcome
-same-outcome : (s : Bridge) → Reached s → (n : ℕ) (d : List ℕ) → outcomeWith search s n d ≡ outcome s n d
+same-outcome : (s : Bridge) (n : ℕ) (d : List ℕ) → outcomeWith search s n d ≡ outcome s n d
 unfolding outcomeWith
-same-outcome s r n d = go (decLe (8 * min n 64) (length d))
+same-outcome s n d = go (decLe (8 * min n 64) (length d))
   where
-    listed : Outcome
-    listed =
-        record {
-          answer = Listed (length (search n s .ids)) (search n s .passes) (search n s .complete);
-          bridge = search n s .bridge;
-          list = listOf (search n s .ids) ++ drop (length (listOf (search n s .ids))) d;
-        }
-
     refused : Outcome
     refused = record { answer = Refused 9; bridge = s; list = d }
 
+    done-with : Outcome
+    done-with = record { answer = listed (search n s); bridge = search n s .bridge; list = written (search n s .ids) d }
+
     go : Dec (8 * min n 64 ≤ length d) → outcomeWith search s n d ≡ outcome s n d
     go (yes h) =
-        let w = done n d s h (never-silent s r n) in
-        ap (λ (t : Bool). cond t refused listed) (le-ltb (length d) (8 * min n 64) h)
+        let w = done n d s h in
+        ap (λ (t : Bool). cond t refused done-with) (le-ltb (length d) (8 * min n 64) h)
         ∙ sym (outcome-path (w .answer) (w .state) (w .buffer))
     go (no h) =
         let w = short n d s (omega arith) in
-        ap (λ (t : Bool). cond t refused listed) (lt-ltb (length d) (8 * min n 64) (omega arith))
+        ap (λ (t : Bool). cond t refused done-with) (lt-ltb (length d) (8 * min n 64) (omega arith))
         ∙ sym (outcome-path (w .answer) (w .state) (w .buffer))
 
 pub ours : Meets (callOf search)
-ours = fewer (callOf search) Exactly (λ s n d. (outcomeWith search s n d, refl)) (λ s r n d o e. e ∙ same-outcome s r n d) exact
+ours = fewer (callOf search) Exactly (λ s n d. (outcomeWith search s n d, refl)) (λ s r n d o e. e ∙ same-outcome s n d) exact
 
 -- ---- the rule of what is noted
 
@@ -90,10 +84,10 @@ searched-by (suc n) i q s = go (walkedBy noted 64 0 i q start) (walked-by 64 0 i
     start : Walk
     start = begun (command (0xA5 ∷ 0xF0 ∷ []) r)
 
-    go : (w : Walk) → w ≡ walked 64 0 i q start → ((i : ℕ) (q : Conflict) (s : Bridge) → searchedBy noted n i q s ≡ searched n i q s) → cond (r .registers .status .ppd) (cond (w .silent) (silenced (w .bridge)) (continued (w .conflict) w (searchedBy noted n (w .id) (w .conflict) (w .bridge)))) (absent r) ≡ searched (suc n) i q s
+    go : (w : Walk) → w ≡ walked 64 0 i q start → ((i : ℕ) (q : Conflict) (s : Bridge) → searchedBy noted n i q s ≡ searched n i q s) → cond (r .registers .status .ppd) (continued (w .conflict) w (searchedBy noted n (w .id) (w .conflict) (w .bridge))) (absent r) ≡ searched (suc n) i q s
     go w e rest =
-        ap (λ (t : Result). cond (r .registers .status .ppd) (cond (w .silent) (silenced (w .bridge)) (continued (w .conflict) w t)) (absent r)) (rest (w .id) (w .conflict) (w .bridge))
-        ∙ ap (λ (v : Walk). cond (r .registers .status .ppd) (cond (v .silent) (silenced (v .bridge)) (continued (v .conflict) v (searched n (v .id) (v .conflict) (v .bridge)))) (absent r)) e
+        ap (λ (t : Result). cond (r .registers .status .ppd) (continued (w .conflict) w t) (absent r)) (rest (w .id) (w .conflict) (w .bridge))
+        ∙ ap (λ (v : Walk). cond (r .registers .status .ppd) (continued (v .conflict) v (searched n (v .id) (v .conflict) (v .bridge))) (absent r)) e
 
 pub rules : (n : ℕ) (s : Bridge) → searchBy noted n s ≡ search n s
 unfolding searchBy search
@@ -118,7 +112,7 @@ two = afterFitting c (withOne a)
 abbrev three : Bridge
 three = afterFitting c (afterFitting b (withOne a))
 
-one-reached : (x : List ℕ) → all (λ (v : ℕ). ltb v 256) x ≡ true → length x ≡ 8 → Reached (withOne x)
+pub one-reached : (x : List ℕ) → all (λ (v : ℕ). ltb v 256) x ≡ true → length x ≡ 8 → Reached (withOne x)
 one-reached x small eight = fit x (below x small) eight on
 
 three-reached : Reached three
@@ -287,11 +281,7 @@ state-left h =
     closed : Bridge → ℕ → List ℕ → Bridge → Outcome
     closed s n d t =
         cond (ltb (length d) (8 * min n 64)) (record { answer = Refused 9; bridge = s; list = d })
-        (record {
-          answer = Listed (length (search n s .ids)) (search n s .passes) (search n s .complete);
-          bridge = t;
-          list = listOf (search n s .ids) ++ drop (length (listOf (search n s .ids))) d;
-        })
+        (record { answer = listed (search n s); bridge = t; list = written (search n s .ids) d })
 
 -- ---- a conflict noted where 1 was taken: after C and A, of two, it is not complete
 
@@ -311,7 +301,7 @@ twice r i p q = go (r .complete) q ∙ length-append (r .ids) _ ∙ ap (λ (n : 
     w = passed 0 Nowhere (command (0xB4 ∷ []) (r .bridge))
 
     more : Result
-    more = record { ids = r .ids ++ w .id ∷ []; passes = suc (r .passes); complete = true; silent = r .silent; bridge = w .bridge }
+    more = record { ids = r .ids ++ w .id ∷ []; passes = suc (r .passes); complete = true; bridge = w .bridge }
 
     go : (t : Bool) → digit t ≡ 1 → length (cond (t && (ltb (r .passes) 2 && ltb 0 (length (r .ids)))) more r .ids) ≡ length (r .ids ++ w .id ∷ [])
     go true e = ap₂ (λ (m n : ℕ). length (cond (ltb m 2 && ltb 0 n) more r .ids)) p i

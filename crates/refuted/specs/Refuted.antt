@@ -1,12 +1,12 @@
 -- What is wrong with each wrong version: a field for each, beside the words of document 01 that name it.
-use Prim.Native.Nat.{ℕ, suc}
-use mathlib.Core.Bool.{Bool}
-use mathlib.Core.List.{List}
+use Prim.Native.Nat.{ℕ, suc, _<_}
+use mathlib.Core.Bool.{Bool, true, false}
+use mathlib.Core.List.{List, [], _∷_}
 use mathlib.Core.Path.{_≡_}
 use Rattle.bridge.specs.declared.Bridge.{Bridge}
 use Rattle.bridge.specs.declared.Pending.the-variants.{Reset, Triplet}
 use Rattle.bridge.specs.declared.Pointer.the-variants.{Status}
-use Rattle.bridge.specs.Bridge.{readOf, writeNumber, afterWrite, afterTime, finishedTriplet, chosen}
+use Rattle.bridge.specs.Bridge.{readOf, writeNumber, afterWrite, afterTime, command, finishedTriplet, chosen}
 use Rattle.bridge.specs.Reached.{Bytes, Reached}
 use Rattle.pass.specs.Pass.{noted}
 use Rattle.pass.specs.Passes.{search}
@@ -14,6 +14,8 @@ use Rattle.packet.specs.Request.{Request, packetOf}
 use Rattle.reading.specs.declared.Reading.the-variants.{Refused}
 use Rattle.reading.specs.Reading.{readingOf}
 use Rattle.demand.specs.Demand.{Meets}
+use Rattle.enumeration.specs.Order.{Among}
+use Rattle.levels.specs.Levels.{Pass, afterTriplet, bothOne, passesTaken}
 use Rattle.refuted.specs.Versions.{callOf, alwaysRefuses, fixedList, firstPassOnly, passesOf, passesAsListed, sortedAsNumbers, searchBy, notesOne, startsAgain, clearsRst, zeroAfterOnes, tripletBy, uninverted}
 
 pub record Refuted : Type 0 where
@@ -50,3 +52,7 @@ pub record Refuted : Type 0 where
   pub zeroWritten : ((s : Bridge) → Reached s → (d : Bool) → s .registers .pending ≡ Triplet d → tripletBy zeroAfterOnes d s ≡ afterTime s) → ⊥
   -- "Sending CRC-16 uninverted"
   pub crcPlain : ((q : Request) → uninverted q ≡ packetOf q) → ⊥
+  -- Document 02, R-6, speaks of a pass that began with presence. Without presence both levels are 1 in a triplet, and so they are, with
+  -- presence, in one outside a search.
+  pub presenceNeeded : ((s : Bridge) → Reached s → (b : ℕ) (p : Pass) → Among p (passesTaken b s) → (k : ℕ) → k < 64 → bothOne (afterTriplet k p) ≡ false) → ⊥
+  pub searchNeeded : ((s : Bridge) → Reached s → s .registers .status .ppd ≡ true → bothOne (command (0x78 ∷ 0 ∷ []) s) ≡ false) → ⊥

@@ -19,7 +19,7 @@ use mathlib.Core.Bool.{Bool, true, false, cond, _&&_}
 use mathlib.Core.List.{List, [], _∷_, _++_}
 use mathlib.Core.Path.{_≡_}
 use lib.Dec.{leb, ltb}
-use lib.ListN.{length, take, drop}
+use lib.ListN.{length, take}
 use Rattle.checksum.specs.Register.{crc16Of}
 use Rattle.line.specs.Line.{level, slot, present, resetAll}
 use Rattle.bridge.specs.declared.Bridge.{Bridge}
@@ -28,9 +28,9 @@ use Rattle.pass.specs.declared.Conflict.{Conflict}
 use Rattle.pass.specs.declared.Conflict.the-variants.{Nowhere, At}
 use Rattle.pass.specs.declared.Walk.{Walk}
 use Rattle.pass.specs.Pass.{direction, tripletByte, tookTriplet, begun, passed}
-use Rattle.pass.specs.Passes.{Result, absent, exhausted, silenced, continued, search}
-use Rattle.search.specs.declared.Answer.the-variants.{Listed, Refused}
-use Rattle.search.specs.Search.{listOf}
+use Rattle.pass.specs.Passes.{Result, absent, exhausted, continued, search}
+use Rattle.search.specs.declared.Answer.the-variants.{Refused}
+use Rattle.search.specs.Search.{listed, written}
 use Rattle.packet.specs.Request.{Request, bodyOf}
 use Rattle.demand.specs.Demand.{Outcome, Search, idsAt}
 
@@ -39,18 +39,12 @@ use Rattle.demand.specs.Demand.{Outcome, Search, idsAt}
 abbrev pub Finding : Type 0
 Finding = ℕ → Bridge → Result
 
--- What the call makes of a finding, as the library's does (but for number 10, which never comes): the bound of the list buffer, the list
--- at its front, the bytes behind it.
+-- What the call makes of a finding, as the library's does: the bound of the list buffer, the list at its front, the bytes behind it.
 unfoldable pub outcomeWith : Finding → Bridge → ℕ → List ℕ → Outcome
 outcomeWith find s b d =
     let r = find b s in
-    let ids = listOf (r .ids) in
     cond (ltb (length d) (8 * min b 64)) (record { answer = Refused 9; bridge = s; list = d })
-    (record {
-      answer = Listed (length (r .ids)) (r .passes) (r .complete);
-      bridge = r .bridge;
-      list = ids ++ drop (length ids) d;
-    })
+    (record { answer = listed r; bridge = r .bridge; list = written (r .ids) d })
 
 abbrev pub callOf : Finding → Search
 callOf find s b d o = o ≡ outcomeWith find s b d
@@ -63,30 +57,24 @@ alwaysRefuses f s b d o = o ≡ record { answer = Refused (f s b d); bridge = s;
 abbrev pub fixedList : (ℕ → List ℕ) → Finding
 fixedList l b s =
     let r = search b s in
-    record { ids = l b; passes = r .passes; complete = r .complete; silent = r .silent; bridge = r .bridge }
+    record { ids = l b; passes = r .passes; complete = r .complete; bridge = r .bridge }
 
 -- A search that walks its first pass and fills in the others without moving the line.
 abbrev pub firstPassOnly : Finding
 firstPassOnly b s =
     let r = search b s in
-    record {
-      ids = r .ids;
-      passes = r .passes;
-      complete = r .complete;
-      silent = r .silent;
-      bridge = search (min b 1) s .bridge;
-    }
+    record { ids = r .ids; passes = r .passes; complete = r .complete; bridge = search (min b 1) s .bridge }
 
 -- A made-up number of passes.
 abbrev pub passesOf : (ℕ → ℕ) → Finding
 passesOf f b s =
     let r = search b s in
-    record { ids = r .ids; passes = f b; complete = r .complete; silent = r .silent; bridge = r .bridge }
+    record { ids = r .ids; passes = f b; complete = r .complete; bridge = r .bridge }
 
 abbrev pub passesAsListed : Finding
 passesAsListed b s =
     let r = search b s in
-    record { ids = r .ids; passes = length (r .ids); complete = r .complete; silent = r .silent; bridge = r .bridge }
+    record { ids = r .ids; passes = length (r .ids); complete = r .complete; bridge = r .bridge }
 
 -- Sorting IDs as numbers.
 unfoldable pub inserted : ℕ → List ℕ → List ℕ
@@ -100,13 +88,7 @@ ascending (i ∷ l) = inserted i (ascending l)
 abbrev pub sortedAsNumbers : Finding
 sortedAsNumbers b s =
     let r = search b s in
-    record {
-      ids = take b (ascending (idsAt s));
-      passes = r .passes;
-      complete = r .complete;
-      silent = r .silent;
-      bridge = r .bridge;
-    }
+    record { ids = take b (ascending (idsAt s)); passes = r .passes; complete = r .complete; bridge = r .bridge }
 
 -- A search as document 01 has it, but for one rule: what is noted at a bit. With `noted` it is the search itself.
 module _ (note : Bool → Bool → Bool → ℕ → Conflict → Conflict) where
@@ -115,12 +97,7 @@ module _ (note : Bool → Bool → Bool → ℕ → Conflict → Conflict) where
       let s = command (0x78 ∷ tripletByte (direction i c k) ∷ []) (w .bridge) in
       let t = tookTriplet k s w in
       let shown = s .registers .status in
-      record {
-        bridge = s;
-        id = t .id;
-        conflict = note (shown .sbr) (shown .tsb) (shown .dir) k (w .conflict);
-        silent = t .silent;
-      }
+      record { bridge = s; id = t .id; conflict = note (shown .sbr) (shown .tsb) (shown .dir) k (w .conflict) }
 
   unfoldable pub walkedBy : ℕ → ℕ → ℕ → Conflict → Walk → Walk
   walkedBy zero k i c w = w
@@ -132,7 +109,7 @@ module _ (note : Bool → Bool → Bool → ℕ → Conflict → Conflict) where
       let r = command (0xB4 ∷ []) s in
       let w = walkedBy 64 0 i c (begun (command (0xA5 ∷ 0xF0 ∷ []) r)) in
       cond (r .registers .status .ppd)
-      (cond (w .silent) (silenced (w .bridge)) (continued (w .conflict) w (searchedBy b (w .id) (w .conflict) (w .bridge))))
+      (continued (w .conflict) w (searchedBy b (w .id) (w .conflict) (w .bridge)))
       (absent r)
 
   unfoldable pub searchBy : Finding
@@ -151,13 +128,7 @@ abbrev pub onceMore : ℕ → Result → Result
 onceMore b r =
     let w = passed 0 Nowhere (command (0xB4 ∷ []) (r .bridge)) in
     cond (r .complete && (ltb (r .passes) b && ltb 0 (length (r .ids))))
-    (record {
-      ids = r .ids ++ w .id ∷ [];
-      passes = suc (r .passes);
-      complete = true;
-      silent = r .silent;
-      bridge = w .bridge;
-    })
+    (record { ids = r .ids ++ w .id ∷ []; passes = suc (r .passes); complete = true; bridge = w .bridge })
     r
 
 abbrev pub startsAgain : Finding

@@ -1,20 +1,20 @@
 -- The bytes of a list of IDs.
 --   length-listOf    eight for each ID
 --   getD-bytesFrom, getD-listOf    byte k of an ID; byte n of the list is byte n % 8 of ID n / 8
---   length-firsts, getD-firsts     the same of the first IDs of a table
---   front-next       one byte more is copied to the front of a buffer
+--   listOf-append    the bytes of two lists of IDs
+--   written-more, length-written   one ID more in the list buffer, which is as long as it was
 use mathlib.Core.Path.{_≡_, refl, sym, ap, ap₂, subst, _∙_}
-use mathlib.Core.List.{List, [], _∷_, _++_}
+use mathlib.Core.List.{List, [], _∷_, _++_, append-nil, append-assoc}
 use Prim.Native.Nat.{ℕ, zero, suc, _+_, _*_, _/_, _%_, _^_, _<_, _≤_, _-_}
 use native.Mathlib.Nat.{add-sub-of-le, div-div-eq-div-mul, div-one, add-div-left, add-mod-left, div-eq-of-lt, mod-eq-of-lt}
 use native.Mathlib.Numerals.{add-one}
 use native.Mathlib.Decide.{decLe}
 use native.Mathlib.Omega.{arith}
 use lib.Dec.{lit<}
-use lib.ListN.{length, getD, take, drop, set, length-append, List·getD-append}
+use lib.ListN.{length, getD, drop, length-append, length-drop, List·getD-append}
 use lib.Pow.{pow-add}
-use lib.Seq.{getD-take, length-take-le, take-suc, drop-cons, append-snoc, set-at, getD-append-add}
-use Rattle.search.specs.Search.{bytesFrom, listOf}
+use lib.Seq.{getD-append-add, take-all, take-at, drop-append-add, drop-drop, paste}
+use Rattle.search.specs.Search.{bytesFrom, listOf, written}
 
 pub length-bytesFrom : (n i : ℕ) → length (bytesFrom n i) ≡ n
 unfolding bytesFrom
@@ -28,7 +28,7 @@ length-listOf (i ∷ ids) =
     omega (arith, length-append (bytesFrom 8 i) (listOf ids), length-bytesFrom 8 i, length-listOf ids)
 
 -- byte k of an ID
-getD-bytesFrom : (n i k : ℕ) → k < n → getD (bytesFrom n i) k 0 ≡ i / 2 ^ (8 * k) % 256
+pub getD-bytesFrom : (n i k : ℕ) → k < n → getD (bytesFrom n i) k 0 ≡ i / 2 ^ (8 * k) % 256
 unfolding bytesFrom
 getD-bytesFrom zero i k h = absurd (omega arith)
 getD-bytesFrom (suc n) i zero h = ap (λ (m : ℕ). m % 256) (sym (div-one i))
@@ -61,23 +61,40 @@ getD-listOf (i ∷ ids) n h = go (getD-listOf ids (n - 8)) (decLe 8 n)
         ∙ getD-bytesFrom 8 i n (omega arith)
         ∙ sym (ap₂ (λ (q r : ℕ). getD (i ∷ ids) q 0 / 2 ^ (8 * r) % 256) (div-eq-of-lt {n = n} {m = 8} (omega arith)) (mod-eq-of-lt {n = n} {m = 8} (omega arith)))
 
--- the same of the first IDs of a table
-module _ (ids : List ℕ) (count : ℕ) (within : count ≤ length ids) where
-  pub length-firsts : length (listOf (take count ids)) ≡ 8 * count
-  length-firsts = length-listOf (take count ids) ∙ ap (λ (m : ℕ). 8 * m) (length-take-le count ids within)
+-- the bytes of two lists of IDs, one behind the other
+pub listOf-append : (p q : List ℕ) → listOf (p ++ q) ≡ listOf p ++ listOf q
+unfolding listOf
+listOf-append [] q = refl
+listOf-append (x ∷ p) q =
+    ap (λ (l : List ℕ). bytesFrom 8 x ++ l) (listOf-append p q) ∙ sym (append-assoc (bytesFrom 8 x) (listOf p) (listOf q))
 
-  pub getD-firsts : (n : ℕ) → n < 8 * count → getD (listOf (take count ids)) n 0 ≡ getD ids (n / 8) 0 / 2 ^ (8 * (n % 8)) % 256
-  getD-firsts n h =
-      getD-listOf (take count ids) n (omega (arith, length-take-le count ids within))
-      ∙ ap (λ (i : ℕ). i / 2 ^ (8 * (n % 8)) % 256) (getD-take count ids (n / 8) 0 (omega arith))
+-- ---- the list buffer
 
--- ---- a copy from the front
+-- one ID more, put behind the n that are there
+pub written-more : (ids : List ℕ) (x n : ℕ) (d : List ℕ) → length ids ≡ n → paste (written ids d) (8 * n) (bytesFrom 8 x) 8 ≡ written (ids ++ x ∷ []) d
+unfolding listOf
+written-more ids x n d e =
+    ap₂ (λ (p q : List ℕ). p ++ q ++ drop (8 * n + 8) (written ids d)) (take-at (listOf ids) _ (8 * n) (sym whole))
+    (take-all 8 (bytesFrom 8 x) (omega (arith, length-bytesFrom 8 x)))
+    ∙ ap₂ (λ (p q : List ℕ). p ++ q) (sym grown) behind
+  where
+    whole : 8 * n ≡ length (listOf ids)
+    whole = omega (arith, length-listOf ids)
 
--- one more byte of s is stored in d
-pub front-next : (d s : List ℕ) (n : ℕ) → n < length d → n < length s → set (take n s ++ drop n d) n (getD s n 0) ≡ take (n + 1) s ++ drop (n + 1) d
-front-next d s n hd hs =
-    rw add-one
-    (ap (λ (r : List ℕ). set (take n s ++ r) n (getD s n 0)) (drop-cons d n 0 hd)
-    ∙ set-at (take n s) (getD d n 0) (drop (suc n) d) (getD s n 0) n (length-take-le n s (omega arith))
-    ∙ sym (append-snoc (take n s) (getD s n 0) (drop (suc n) d))
-    ∙ ap (λ (r : List ℕ). r ++ drop (suc n) d) (sym (take-suc s n 0 hs)))
+    grown : listOf (ids ++ x ∷ []) ≡ listOf ids ++ bytesFrom 8 x
+    grown = listOf-append ids (x ∷ []) ∙ ap (λ (l : List ℕ). listOf ids ++ l) (append-nil (bytesFrom 8 x))
+
+    longer : length (listOf ids) + 8 ≡ length (listOf (ids ++ x ∷ []))
+    longer = omega (arith, ap length grown, length-append (listOf ids) (bytesFrom 8 x), length-bytesFrom 8 x)
+
+    behind : drop (8 * n + 8) (written ids d) ≡ drop (length (listOf (ids ++ x ∷ []))) d
+    behind =
+        ap (λ (m : ℕ). drop (m + 8) (written ids d)) whole
+        ∙ drop-append-add (listOf ids) _ 8
+        ∙ drop-drop 8 (length (listOf ids)) d
+        ∙ ap (λ (m : ℕ). drop m d) longer
+
+-- as long as it was
+pub length-written : (ids d : List ℕ) → 8 * length ids ≤ length d → length (written ids d) ≡ length d
+length-written ids d h =
+    length-append (listOf ids) _ ∙ omega (arith, length-listOf ids, length-drop (length (listOf ids)) d)

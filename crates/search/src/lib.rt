@@ -12,10 +12,8 @@ ghost use mathlib.Core.Path.{_≡_};
 ghost use Prim.Native.Nat.{min};
 ghost use Rattle.search.specs.Search.{answerOf, bufferOf, bridgeOf};
 
-// The refusals of a search, by their numbers in the table of document 01.
+// The refusal of a search, by its number in the table of document 01.
 pub const REFUSED_SHORT: u8 = 9;
-
-pub const REFUSED_SILENT: u8 = 10;
 
 pub enum Answer {
     // So many IDs are listed, by so many passes, and whether the list is complete.
@@ -41,15 +39,6 @@ fn at_most(b: u16) -> usize
     if b < 64 { b as usize } else { 64 }
 }
 
-fn refused(number: u8, bridge: Bridge) -> Searched
-    ensures { λ r. ⌜ (r .answer ≡ Answer.Refused number) × (r .bridge ≡ bridge) ⌝ }
-{
-    Searched {
-        answer: Answer::Refused { number },
-        bridge,
-    }
-}
-
 // The search. The IDs come to lie at the front of the list, eight bytes each; a refused search changes nothing.
 pub fn search(bridge: Bridge, b: u16, list: &mut [u8]) -> Searched
     ensures { λ r. ⌜ r .answer ≡ answerOf b (now (list .entry)) bridge ⌝ }
@@ -58,21 +47,12 @@ pub fn search(bridge: Bridge, b: u16, list: &mut [u8]) -> Searched
 {
     let allowed = at_most(b);
     if list.len() < 8 * allowed {
-        return refused(REFUSED_SHORT, bridge);
+        return Searched {
+            answer: Answer::Refused {
+                number: REFUSED_SHORT,
+            },
+            bridge,
+        };
     }
-    let found = passes::all(allowed, bridge);
-    if found.silent {
-        return refused(REFUSED_SILENT, bridge);
-    }
-    let ids = found.ids;
-    listing::put(list, &ids, found.count);
-    let after = found.bridge;
-    Searched {
-        answer: Answer::Listed {
-            count: found.count,
-            passes: found.passes,
-            complete: found.complete,
-        },
-        bridge: after,
-    }
+    passes::all(allowed, bridge, list)
 }

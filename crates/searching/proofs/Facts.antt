@@ -1,4 +1,5 @@
 -- What a search comes to, with no pass allowed, with no probe and with some. Neither distinct IDs nor a reached state is asked for.
+--   started          after its Device Reset
 --   search-facts     what it comes to
 --   search-enough    as many passes as IDs, and one, do what any more do
 --   search-capped    more than 64 passes do what 64 do
@@ -36,7 +37,7 @@ unfolding direction sorted
 first-pass ids there = sequence (has ids) (has-split ids) 64 0 0 (lit< tt) there (direction 0 Nowhere) (λ j h. refl)
 
 -- after the Device Reset nothing is pending, and the line is as it was
-started : {ids : List ℕ} {rest : Rest} (b : Bridge) → Holds ids rest (b .line) → Idle ids rest (command (0xF0 ∷ []) b)
+pub started : {ids : List ℕ} {rest : Rest} (b : Bridge) → Holds ids rest (b .line) → Idle ids rest (command (0xF0 ∷ []) b)
 started {ids} {rest} b h =
     subst⁻¹ (Idle ids rest) (command-deviceReset b) (record { holds = h; idle = refl })
 
@@ -49,7 +50,6 @@ none-allowed ids rest l b h =
       listed = refl;
       used = sym (zero-min (max 1 (length l)));
       whole = ap (λ (t : Bool). t && leb (length l) 0) (sym (lt-leb 1 0 (lit< tt)));
-      neverSilent = refl;
       holds = h;
       closing = λ p x e. absurd (no-snoc p x e);
     }
@@ -62,7 +62,6 @@ absent-facts rest m b t =
       listed = refl;
       used = omega arith;
       whole = ap₂ _&&_ (sym (le-leb 1 (suc m) (omega arith))) (sym (leb·zero (suc m)));
-      neverSilent = refl;
       holds = holds-command (0xB4 ∷ []) b (t .holds);
       closing = λ p x e. absurd (no-snoc p x e);
     }
@@ -84,7 +83,6 @@ outcome-facts ids rest l m b r pos o =
       listed = o .listed;
       used = omega (arith, o .used);
       whole = o .whole ∙ ap (λ (t : Bool). t && leb (length l) (suc m)) (sym (le-leb 1 (suc m) (omega arith)));
-      neverSilent = o .neverSilent;
       holds = o .idle .holds;
       closing = λ p x e. (o .closing p x e, o .idle .idle);
     }

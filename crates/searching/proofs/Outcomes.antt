@@ -66,13 +66,13 @@ module _ (ids : List ℕ) (rest : Rest) (there : has ids 0 0 ≡ true) where
     searched-ends : (m : ℕ) → last (has ids) (direction i c) 64 0 0 ≡ none → searched (suc m) i c b ≡ lastOne (next i c b)
     unfolding onto
     searched-ends m e =
-        searched-last m i c b presence (ended .neverSilent)
+        searched-last m i c b presence
         (passed-on t i c there .1 ∙ ap (λ (p : Option ℕ). onto p Nowhere) e)
 
     searched-goes : (m x q : ℕ) → ending (has ids) (direction i c) 64 0 0 ≡ x → last (has ids) (direction i c) 64 0 0 ≡ some q → searched (suc m) i c b ≡ before x (searched m x (At q) (next i c b .bridge))
     unfolding onto
     searched-goes m x q e f =
-        searched-more m i c b q presence (ended .neverSilent)
+        searched-more m i c b q presence
         (passed-on t i c there .1 ∙ ap (λ (p : Option ℕ). onto p Nowhere) f)
         ∙ ap (λ (y : ℕ). before y (searched m y (At q) (next i c b .bridge))) (ended .path ∙ e)
 
@@ -86,7 +86,6 @@ module _ (ids : List ℕ) (rest : Rest) (there : has ids 0 0 ≡ true) where
         listed = refl;
         used = sym (zero-min (suc (length l)));
         whole = sym (leb·suc-zero (length l));
-        neverSilent = refl;
         idle = t;
         still = λ e. refl;
         closing = λ p y e. absurd (no-snoc p y e);
@@ -99,7 +98,6 @@ module _ (ids : List ℕ) (rest : Rest) (there : has ids 0 0 ≡ true) where
         listed = ap₂ {C = List ℕ} (λ (y : ℕ) (r : List ℕ). y ∷ r) (u .path) (sym (take-nil m));
         used = omega arith;
         whole = sym (le-leb 1 (suc m) (omega arith));
-        neverSilent = refl;
         idle = under-idle u;
         still = λ f. absurd (cons≢nil f);
         closing =
@@ -114,7 +112,6 @@ module _ (ids : List ℕ) (rest : Rest) (there : has ids 0 0 ≡ true) where
         listed = ap {B = List ℕ} (λ (q : List ℕ). x ∷ q) (o .listed);
         used = ap suc (o .used) ∙ sym (suc-min-suc m (length l));
         whole = o .whole ∙ sym (leb·suc-suc (length l) m);
-        neverSilent = o .neverSilent;
         idle = o .idle;
         still = λ f. absurd (cons≢nil f);
         closing = go;

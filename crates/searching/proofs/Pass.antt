@@ -1,12 +1,13 @@
--- A pass ends where the enumeration says, notes the last conflict that it says, and meets levels 1,1 nowhere.
+-- A pass ends where the enumeration says, notes the last conflict that it says, and shows levels 1,1 after none of its triplets.
 --   triplet-sbr .. triplet-line       what the bridge shows after the triplet of bit k, and its line
 --   tripled-on, walked-on             a pass on the path a before bit k is on the path with the bit taken before the next; and so on to bit 64
+--   tripled-heard, walked-heard       after such a triplet one of its levels is 0
 --   reset-ppd, reset-line, reset-idle a 1-Wire Reset
 --   commanded-line, commanded-idle    a 1-Wire Reset and a Write Byte
---   passed-on                         a whole pass
+--   searching-under, passed-on        a pass before its first triplet, and a whole one
 --   under-idle                        the bridge after it is as ready as before
 use mathlib.Core.Path.{_≡_, refl, sym, ap, ap₂, subst, subst⁻¹, fun-ext, _∙_}
-use mathlib.Core.Bool.{Bool, true, false, cond, not, true≢false}
+use mathlib.Core.Bool.{Bool, true, false, cond, not, _&&_, true≢false}
 use mathlib.Core.List.{List, [], _∷_, map, map-map}
 use mathlib.Core.Option.{Option, none, some}
 use Prim.Native.Nat.{ℕ, zero, suc, _+_, _*_, _^_, _<_}
@@ -24,7 +25,7 @@ use Rattle.bridge.specs.Bridge.{isPending, busy, pended, withRegisters, chosen,
 use Rattle.pass.specs.declared.Conflict.{Conflict}
 use Rattle.pass.specs.declared.Conflict.the-variants.{Nowhere, At}
 use Rattle.pass.specs.declared.Walk.{Walk}
-use Rattle.pass.specs.Pass.{direction, noted, tripletByte, tookTriplet, tripled, walked, passed}
+use Rattle.pass.specs.Pass.{direction, noted, tripletByte, tookTriplet, tripled, walked, begun, passed}
 use Rattle.enumeration.proofs.Tree.{has, child, branch, conflictAt, ending, deeper, last}
 use Rattle.enumeration.proofs.Bits.{child-lt, has-split}
 use Rattle.searching.proofs.Words.{Rest, lineOf, stand, standing, gathered, onto, Under, Idle}
@@ -101,10 +102,10 @@ id-child true k a = ap (λ (m : ℕ). a + m) (one-mul (2 ^ k))
 id-child false k a = ap (λ (m : ℕ). a + m) (zero-mul (2 ^ k)) ∙ add-zero a
 
 -- with an ID below the node one of the levels is 0
-never-silent-on : (z o s : Bool) → cond z true o ≡ true → s ≡ false → cond (not z) (cond (not o) true s) s ≡ false
-never-silent-on true o s h e = e
-never-silent-on false true s h e = e
-never-silent-on false false s h e = absurd (true≢false (sym h))
+one-heard : (z o : Bool) → cond z true o ≡ true → (not z && not o) ≡ false
+one-heard true o h = refl
+one-heard false true h = refl
+one-heard false false h = absurd (true≢false (sym h))
 
 -- the branch taken is there
 has-branch : (ids : List ℕ) (d : ℕ → Bool) (k a : ℕ) → a < 2 ^ k → has ids k a ≡ true → has ids (suc k) (child (branch (has ids) d k a) k a) ≡ true
@@ -139,12 +140,6 @@ module _ (ids : List ℕ) (rest : Rest) (i : ℕ) (c : Conflict) where
               ap₂ (λ (x : ℕ) (t : Bool). x + digit t * 2 ^ k) (u .path)
               (triplet-dir ids rest (direction i c) k a within below (w .bridge) (u .line))
               ∙ id-child (branch (has ids) (direction i c) k a) k a;
-          neverSilent =
-              ap₂ (λ (x y : Bool). cond x (cond y true (w .silent)) (w .silent))
-              (triplet-sbr ids rest (direction i c) k a within below (w .bridge) (u .line))
-              (triplet-tsb ids rest (direction i c) k a within below (w .bridge) (u .line))
-              ∙ never-silent-on (has ids (suc k) (child false k a)) (has ids (suc k) (child true k a)) (w .silent)
-              (sym (has-split ids k a below) ∙ there) (u .neverSilent);
         }
 
     tripled-conflict : tookTriplet k shown w .conflict ≡ onto (conflictAt (has ids) (direction i c) k a) (w .conflict)
@@ -164,6 +159,16 @@ module _ (ids : List ℕ) (rest : Rest) (i : ℕ) (c : Conflict) where
       subst⁻¹ (Under ids rest (suc k) (child (branch (has ids) (direction i c) k a) k a)) tripled-shown tripled-under,
       ap (λ (v : Walk). v .conflict) tripled-shown ∙ tripled-conflict,
     )
+
+    -- one of its levels is 0
+    tripled-heard : let s = tripled i c k w .bridge .registers .status in (s .sbr && s .tsb) ≡ false
+    unfolding tookTriplet shown
+    tripled-heard =
+        ap (λ (v : Walk). v .bridge .registers .status .sbr && v .bridge .registers .status .tsb) tripled-shown
+        ∙ ap₂ _&&_
+        (triplet-sbr ids rest (direction i c) k a within below (w .bridge) (u .line))
+        (triplet-tsb ids rest (direction i c) k a within below (w .bridge) (u .line))
+        ∙ one-heard (has ids (suc k) (child false k a)) (has ids (suc k) (child true k a)) (sym (has-split ids k a below) ∙ there)
 
   -- ---- the triplets of a pass
 
@@ -185,6 +190,16 @@ module _ (ids : List ℕ) (rest : Rest) (i : ℕ) (c : Conflict) where
             ∙ onto-deeper (last (has ids) (direction i c) n (suc k) (child (branch (has ids) (direction i c) k a) k a))
             (conflictAt (has ids) (direction i c) k a) (w .conflict),
       )
+
+  -- after the triplet of bit k + j one of its levels is 0
+  pub walked-heard : (n k a : ℕ) → n + k ≡ 64 → a < 2 ^ k → has ids k a ≡ true → (w : Walk) → Under ids rest k a w → (j : ℕ) → j < n → let s = walked (suc j) k i c w .bridge .registers .status in (s .sbr && s .tsb) ≡ false
+  unfolding walked
+  walked-heard zero k a e below there w u j h = absurd (omega arith)
+  walked-heard (suc n) k a e below there w u zero h = tripled-heard k a (omega arith) below there w u
+  walked-heard (suc n) k a e below there w u (suc j) h =
+      walked-heard n (suc k) (child (branch (has ids) (direction i c) k a) k a) (omega arith)
+      (child-lt (branch (has ids) (direction i c) k a) k a below) (has-branch ids (direction i c) k a below there)
+      (tripled i c k w) (tripled-on k a (omega arith) below there w u .0) j (omega arith)
 
 -- ---- a 1-Wire Reset, and a ROM command
 
@@ -225,12 +240,14 @@ module _ {ids : List ℕ} {rest : Rest} {b : Bridge} (t : Idle ids rest b) where
       ∙ sym (map-map (standing 0 0) idOf (t .holds .probes))
       ∙ ap (map (standing 0 0)) (t .holds .same))
 
+  -- before its first triplet a pass is on the path of no bit
+  pub searching-under : Under ids rest 0 0 (begun (command (0xA5 ∷ 0xF0 ∷ []) (command (0xB4 ∷ []) b)))
+  searching-under =
+      record { line = searching-line; idle = commanded-idle b (t .holds .probes) rest (t .holds .line) (t .idle) 0xF0; path = refl }
+
   pub passed-on : (i : ℕ) (c : Conflict) → has ids 0 0 ≡ true → Under ids rest 64 (ending (has ids) (direction i c) 64 0 0) (passed i c (command (0xB4 ∷ []) b)) × (passed i c (command (0xB4 ∷ []) b) .conflict ≡ onto (last (has ids) (direction i c) 64 0 0) Nowhere)
   unfolding passed
-  passed-on i c there =
-      walked-on ids rest i c 64 0 0 refl (lit< tt) there
-      (record { bridge = command (0xA5 ∷ 0xF0 ∷ []) (command (0xB4 ∷ []) b); id = 0; conflict = Nowhere; silent = false })
-      (record { line = searching-line; idle = commanded-idle b (t .holds .probes) rest (t .holds .line) (t .idle) 0xF0; path = refl; neverSilent = refl })
+  passed-on i c there = walked-on ids rest i c 64 0 0 refl (lit< tt) there _ searching-under
 
 -- the line after a pass has the same IDs
 pub under-idle : {ids : List ℕ} {rest : Rest} {k a : ℕ} {w : Walk} → Under ids rest k a w → Idle ids rest (w .bridge)

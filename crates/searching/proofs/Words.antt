@@ -6,7 +6,7 @@
 --   stand s k a i      the probe i in slot s of bit k of a search whose path is a: deaf if it does not begin as a
 --   standing k a i     the same before bit k; after the last bit it is marked and selected
 --   onto p c              the last conflict, where p was noted after c
---   Under ids rest k a w  before bit k the pass w is on the path a, all levels having been heard
+--   Under ids rest k a w  before bit k the pass w is on the path a
 --   Holds ids rest l      the line l has probes with the IDs ids, and `rest`
 --   Idle ids rest b       the bridge b has such a line, and nothing is pending
 --   Outcome ids rest l m b r   r is what m passes from the bridge b on come to, if all passes there are list l
@@ -73,7 +73,6 @@ pub record Under (ids : List ℕ) (rest : Rest) (k a : ℕ) (w : Walk) : Type 0 
   pub line : w .bridge .line ≡ lineOf (map (standing k a) ids) rest
   pub idle : w .bridge .registers .pending ≡ Nothing
   pub path : w .id ≡ a
-  pub neverSilent : w .silent ≡ false
 
 pub record Holds (ids : List ℕ) (rest : Rest) (l : Line) : Type 0 where
   pub probes : List Probe
@@ -90,7 +89,6 @@ pub record Outcome (ids : List ℕ) (rest : Rest) (l : List ℕ) (m : ℕ) (b : 
   pub listed : r .ids ≡ take m l
   pub used : r .passes ≡ min m (length l)
   pub whole : r .complete ≡ leb (length l) m
-  pub neverSilent : r .silent ≡ false
   pub idle : Idle ids rest (r .bridge)
   pub still : r .ids ≡ [] → r .bridge ≡ b
   pub closing : (p : List ℕ) (x : ℕ) → r .ids ≡ p ++ x ∷ [] → r .bridge .line ≡ lineOf (map (standing 64 x) ids) rest
@@ -99,6 +97,5 @@ pub record Facts (ids : List ℕ) (rest : Rest) (l : List ℕ) (m : ℕ) (r : Re
   pub listed : r .ids ≡ take m l
   pub used : r .passes ≡ min m (max 1 (length l))
   pub whole : r .complete ≡ (leb 1 m && leb (length l) m)
-  pub neverSilent : r .silent ≡ false
   pub holds : Holds ids rest (r .bridge .line)
   pub closing : (p : List ℕ) (x : ℕ) → r .ids ≡ p ++ x ∷ [] → (r .bridge .line ≡ lineOf (map (standing 64 x) ids) rest) × (r .bridge .registers .pending ≡ Nothing)

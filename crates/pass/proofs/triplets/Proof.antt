@@ -13,13 +13,13 @@ use Rattle.pass.proofs.triplets.Statement.{statement}
 use Rattle.pass.proofs.triplets.Tie as tie
 
 abbrev Inv-loop : tie.InvT-loop
-Inv-loop previous before bridge₀ id₀ conflict₀ silent₀ k₀ bridge id conflict silent k =
+Inv-loop previous before bridge₀ id₀ conflict₀ k₀ bridge id conflict k =
     (k ≤ 64) × (id < 2 ^ k)
     × (walked 64 0 previous before (begun bridge₀)
-    ≡ walked (64 - k) k previous before (record { bridge = bridge; id = id; conflict = conflict; silent = silent }))
+    ≡ walked (64 - k) k previous before (record { bridge = bridge; id = id; conflict = conflict }))
 
 abbrev μ-loop : tie.MeasureT-loop
-μ-loop previous before bridge₀ id₀ conflict₀ silent₀ k₀ bridge id conflict silent k = 64 - k
+μ-loop previous before bridge₀ id₀ conflict₀ k₀ bridge id conflict k = 64 - k
 
 loop-holds : tie.Need-loop-holds Inv-loop μ-loop
 loop-holds c = (omega arith, lit< tt, refl)
@@ -42,9 +42,6 @@ with-bit-requires c κs = search needs
 noted-requires : tie.Need-noted-requires Inv-loop μ-loop
 noted-requires c κs = search needs
 
-silent-after-requires : tie.Need-silent-after-requires Inv-loop μ-loop
-silent-after-requires c κs = search needs
-
 add-k : tie.Need-add-k Inv-loop μ-loop
 add-k c = search needs
 
@@ -53,19 +50,19 @@ loop-less c = omega arith
 
 loop-again : tie.Need-loop-again Inv-loop μ-loop
 loop-again c =
-    let b = c .before .before .before .before .before in
+    let b = c .before .before .before .before in
     let t = b .before .before in
     let s = t .before .before .before in
     let l = s .loop in
-    let w : Walk = record { bridge = l .bridge; id = l .id; conflict = l .conflict; silent = l .silent } in (
+    let w : Walk = record { bridge = l .bridge; id = l .id; conflict = l .conflict } in (
       omega arith,
-      c .before .before .with-bit .ensures .1,
+      c .before .with-bit .ensures .1,
       l .inv .2
           ∙ walked-next _ _ _ _ (omega arith)
           (tripled-by (s .before .args .previous) (s .before .args .before) (l .k) w
           (b .command .ensures
           ∙ ap (λ (x : ℕ). command (0x78 ∷ x ∷ []) (l .bridge)) (t .triplet-byte .ensures ∙ ap tripletByte (t .before .direction .ensures)))
-          (c .before .before .with-bit .ensures .0) (c .before .noted .ensures) (c .silent-after .ensures)),
+          (c .before .with-bit .ensures .0) (c .noted .ensures)),
     )
 
 returns : tie.Need-returns Inv-loop μ-loop
@@ -86,7 +83,6 @@ triplets-spec =
     command-requires
     with-bit-requires
     noted-requires
-    silent-after-requires
     add-k
     loop-less
     loop-again

@@ -1,59 +1,55 @@
--- `listing::put` meets its contract: the first n bytes of the list are written, and those behind are as they were.
-use mathlib.Core.Path.{_≡_, refl, sym, ap₂, _∙_}
-use mathlib.Core.List.{List, _++_}
-use Prim.Native.Nat.{ℕ, _*_, _≤_, _-_}
+-- `listing::put` meets its contract: after k turns the first k bytes of the ID lie at the place, and all other bytes are as they were.
+use mathlib.Core.Path.{_≡_, refl, sym, ap, ap₂, _∙_}
+use mathlib.Core.List.{List}
+use Prim.Native.Nat.{ℕ, _+_, _≤_, _-_}
 use native.Mathlib.Omega.{arith}
-use lib.ListN.{length, getD, take, drop, set, length-set}
-use lib.Seq.{take-all}
-use Rattle.search.specs.Search.{listOf}
-use Rattle.search.proofs.Bytes.{length-firsts, getD-firsts, front-next}
+use native.Mathlib.Numerals.{add-one}
+use lib.ListN.{length, getD, set, length-set}
+use lib.Seq.{paste, paste-zero, paste-suc}
+use Rattle.search.specs.Search.{bytesFrom}
+use Rattle.search.proofs.Bytes.{length-bytesFrom, getD-bytesFrom}
 use borrow.Author.Needs.{needs}
 use Rattle.search.proofs.listing.put.Statement.{statement}
 use Rattle.search.proofs.listing.put.Tie as tie
 
 abbrev Inv-loop : tie.InvT-loop
-Inv-loop list₀ ids count n₀ list n =
-    (n ≤ 8 * count) × (length list ≡ length list₀) × (list ≡ take n (listOf (take count ids)) ++ drop n list₀)
+Inv-loop list₀ place id k₀ list k =
+    (k ≤ 8) × (length list ≡ length list₀) × (list ≡ paste list₀ place (bytesFrom 8 id) k)
 
 abbrev μ-loop : tie.MeasureT-loop
-μ-loop list₀ ids count n₀ list n = 8 * count - n
+μ-loop list₀ place id k₀ list k = 8 - k
 
 loop-holds : tie.Need-loop-holds Inv-loop μ-loop
-loop-holds c = (omega arith, refl, refl)
-
-mul-loop : tie.Need-mul-loop Inv-loop μ-loop
-mul-loop c = search needs
-
-mul-byte-of : tie.Need-mul-byte-of Inv-loop μ-loop
-mul-byte-of c = search needs
-
-shared-slice-read-byte-of : tie.Need-shared-slice-read-byte-of Inv-loop μ-loop
-shared-slice-read-byte-of c = search needs
+loop-holds c =
+    let a = c .before .args in
+    (omega arith, refl, paste-zero (a .list .now) (a .place) (bytesFrom 8 (a .id)))
 
 byte-of-requires : tie.Need-byte-of-requires Inv-loop μ-loop
 byte-of-requires c κs = search needs
 
+add-list : tie.Need-add-list Inv-loop μ-loop
+add-list c = search needs
+
 slice-write-list : tie.Need-slice-write-list Inv-loop μ-loop
 slice-write-list c = omega arith
 
-add-n : tie.Need-add-n Inv-loop μ-loop
-add-n c = search needs
+add-k : tie.Need-add-k Inv-loop μ-loop
+add-k c = search needs
 
 loop-less : tie.Need-loop-less Inv-loop μ-loop
 loop-less c = omega arith
 
 loop-again : tie.Need-loop-again Inv-loop μ-loop
 loop-again c =
-    let a = c .before .before .before .before .before .before .args in
-    let l = c .before .before .before .loop in
-    let p = c .before .before .before .before .before .before .pre in
-    let next : getD (listOf (take (a .count) (a .ids .now))) (l .n) 0 ≡ c .byte-of .result =
-    getD-firsts (a .ids .now) (a .count) (p .0) (l .n) (omega arith) ∙ sym (c .byte-of .ensures) in (
+    let l = c .before .before .loop in
+    let a = c .before .before .before .before .args in
+    let s = bytesFrom 8 (a .id) in
+    let byte : c .byte-of .result ≡ getD s (l .k) 0 = c .byte-of .ensures ∙ sym (getD-bytesFrom 8 (a .id) (l .k) (omega arith)) in (
       omega arith,
       simp length-set (l .inv .1),
-      ap₂ (λ (x : List ℕ) (v : ℕ). set x (l .n) v) (l .inv .2) (sym next)
-          ∙ front-next (a .list .now) (listOf (take (a .count) (a .ids .now))) (l .n) (omega arith)
-          (omega (arith, length-firsts (a .ids .now) (a .count) (p .0))),
+      ap₂ (λ (x : List ℕ) (v : ℕ). set x (a .place + l .k) v) (l .inv .2) byte
+          ∙ paste-suc (a .list .now) (a .place) s (l .k) 0 (omega arith) (omega (arith, length-bytesFrom 8 (a .id)))
+          ∙ ap (paste (a .list .now) (a .place) s) (sym (add-one (l .k))),
     )
 
 same-length : tie.Need-same-length Inv-loop μ-loop
@@ -61,14 +57,9 @@ same-length c = c .before .loop .inv .1
 
 returns : tie.Need-returns Inv-loop μ-loop
 returns c =
-    let a = c .before .before .before .before .args in
     let l = c .before .loop in
-    let stop : l .n ≡ 8 * a .count = omega arith in
-    l .inv .2
-    ∙ ap₂ (λ (x : List ℕ) (k : ℕ). x ++ drop k (a .list .now))
-    (take-all (l .n) (listOf (take (a .count) (a .ids .now)))
-    (omega (arith, length-firsts (a .ids .now) (a .count) (c .before .before .before .before .pre .0))))
-    stop
+    let a = c .before .before .before .args in
+    let all : l .k ≡ 8 = omega arith in l .inv .2 ∙ ap (paste (a .list .now) (a .place) (bytesFrom 8 (a .id))) all
 
 pub put-spec : {M : Type 1} → statement M
 put-spec =
@@ -77,12 +68,10 @@ put-spec =
     Inv-loop
     μ-loop
     loop-holds
-    mul-loop
-    mul-byte-of
-    shared-slice-read-byte-of
     byte-of-requires
+    add-list
     slice-write-list
-    add-n
+    add-k
     loop-less
     loop-again
     same-length

@@ -1,41 +1,63 @@
--- `passes::passes` meets its contract: the IDs found so far stand before what the passes that are left come to.
+-- `passes::passes` meets its contract: the IDs found so far stand in the list, before what the passes that are left come to.
 use mathlib.Core.Path.{_≡_, refl, ap, _∙_}
-use Prim.Native.Nat.{ℕ, _+_, _≤_, _-_}
+use Prim.Native.Nat.{ℕ, _+_, _*_, _≤_, _-_}
 use native.Mathlib.Omega.{arith}
-use native.Mathlib.Numerals.{add-one}
-use mathlib.Core.List.{[], _∷_, _++_}
-use lib.ListN.{length, take, set, length-set}
-use lib.Seq.{length-take-le, take-suc-set}
+use mathlib.Core.List.{List, [], _∷_, _++_}
+use lib.ListN.{length, length-append}
+use lib.Seq.{paste}
 use borrow.Author.Tests.{not-true, not-false}
-use Rattle.pass.specs.declared.Conflict.the-variants.{Nowhere}
-use Rattle.pass.specs.Passes.{searched}
-use Rattle.search.proofs.Onward.{stands, onward, onward-none, onward-over, onward-absent, onward-silenced, onward-last, onward-more}
+use Rattle.search.specs.Search.{bytesFrom, written}
+use Rattle.search.proofs.Bytes.{written-more, length-written}
+use Rattle.search.proofs.Onward.{onward-over, onward-absent, onward-last, onward-more, Going, going-start, stands}
 use borrow.Author.Needs.{needs}
 use Rattle.search.proofs.passes.passes.Statement.{statement}
 use Rattle.search.proofs.passes.passes.Tie as tie
 
 abbrev Inv-loop : tie.InvT-loop
-Inv-loop allowed bridge₀ ids₀ previous₀ last₀ count₀ bridge ids previous last count =
-    (count ≤ allowed) × (length ids ≡ 64)
-    × (searched allowed 0 Nowhere bridge₀ ≡ onward (take count ids) (searched (allowed - count) previous last bridge))
+Inv-loop allowed list₀ bridge₀ previous₀ last₀ count₀ list bridge previous last count =
+    (count ≤ allowed) × (length list ≡ length list₀) × Going allowed bridge₀ list₀ list bridge previous last count
 
 abbrev μ-loop : tie.MeasureT-loop
-μ-loop allowed bridge₀ ids₀ previous₀ last₀ count₀ bridge ids previous last count = allowed - count
+μ-loop allowed list₀ bridge₀ previous₀ last₀ count₀ list bridge previous last count = allowed - count
 
--- ---- what is found
+-- ---- what a pass has found
 
-counted : (c : tie.In-loop Inv-loop μ-loop) → length (take (c .before .loop .count) (c .before .loop .ids)) ≡ c .before .loop .count
-counted c = length-take-le (c .before .loop .count) (c .before .loop .ids) (omega arith)
+-- where the pass has put its ID
+abbrev Z : Type 0
+Z = tie.After-put Inv-loop μ-loop
 
-grown : (c : tie.Else2 Inv-loop μ-loop) → let l = c .before .before .before .before .before .before .before .before .loop in take (l .count + 1) (set (l .ids) (l .count) (c .before .before .pass .result .id)) ≡ take (l .count) (l .ids) ++ c .before .before .pass .result .id ∷ []
-grown c =
-    let l = c .before .before .before .before .before .before .before .before .loop in
-    rw add-one (take-suc-set (l .ids) (l .count) _ (omega arith))
+ids-of : Z → List ℕ
+ids-of z =
+    let e = z .before .before .before .before in
+    e .before .before .before .before .before .loop .inv .2 .ids ++ z .before .before .before .pass .result .id ∷ []
+
+counted-more : (z : Z) → (let e = z .before .before .before .before in length (ids-of z) ≡ e .before .before .before .before .before .loop .count + 1)
+unfolding ids-of
+counted-more z =
+    let g = z .before .before .before .before .before .before .before .before .before .loop .inv .2 in
+    length-append (g .ids) _ ∙ ap (λ (n : ℕ). n + 1) (g .counted)
+
+list-more : (z : Z) → (let o = z .before .before .before .before .before .before .before .before .before in z .put .last .0 ≡ written (ids-of z) (o .before .before .args .list .now))
+unfolding ids-of
+list-more z =
+    let o = z .before .before .before .before .before .before .before .before .before in
+    let g = o .loop .inv .2 in
+    let x = z .before .before .before .pass .result .id in
+    let put : z .put .last .0 ≡ paste (o .loop .list) (8 * o .loop .count) (bytesFrom 8 x) 8 = search needs in
+    put
+    ∙ ap (λ (e : List ℕ). paste e (8 * o .loop .count) (bytesFrom 8 x) 8) (g .list)
+    ∙ written-more (g .ids) x (o .loop .count) (o .before .before .args .list .now) (g .counted)
+
+same-more : (z : Z) → (let o = z .before .before .before .before .before .before .before .before .before in length (z .put .last .0) ≡ length (o .before .before .args .list .now))
+same-more z =
+    let t = z .before .before .before .before .before .before .before .before in
+    ap length (list-more z)
+    ∙ length-written (ids-of z) _ (omega (arith, counted-more z, t .loop-test .taken, t .before .before .before .pre .1))
 
 -- ---- the needs
 
 loop-holds : tie.Need-loop-holds Inv-loop μ-loop
-loop-holds c = (omega arith, refl, onward-none _ ∙ ap (λ (m : ℕ). onward [] (searched m 0 Nowhere (c .args .start))) (omega arith))
+loop-holds c = (omega arith, refl, going-start _ _ _)
 
 slice-aggregate-command : tie.Need-slice-aggregate-command Inv-loop μ-loop
 slice-aggregate-command c = search needs
@@ -43,47 +65,33 @@ slice-aggregate-command c = search needs
 command-requires : tie.Need-command-requires Inv-loop μ-loop
 command-requires c κs = search needs
 
-add-complete : tie.Need-add-complete Inv-loop μ-loop
-add-complete c = search needs
+add-listed : tie.Need-add-listed Inv-loop μ-loop
+add-listed c = search needs
 
-complete-requires : tie.Need-complete-requires Inv-loop μ-loop
-complete-requires c κs = search needs
+listed-requires : tie.Need-listed-requires Inv-loop μ-loop
+listed-requires c κs = search needs
+
+same-length : tie.Need-same-length Inv-loop μ-loop
+same-length c = c .before .before .before .before .before .before .loop .inv .1
 
 returns : tie.Need-returns Inv-loop μ-loop
 returns c =
     let t = c .before in
-    let l = t .before .before .before .before .before .loop in
-    stands (c .complete .ensures)
-    (l .inv .2
-    ∙ onward-absent _ _ _ _ _ (take (l .count) (l .ids)) (counted (t .before .before .before .before)) (omega arith)
-    (t .before .before .command .ensures) (not-true _ (t .if1 .taken)))
-    (l .inv .0) (l .inv .1)
+    let o = t .before .before .before .before .before in
+    let g = o .loop .inv .2 in
+    stands (o .before .before .args .list .now) (g .ids)
+    (g .whole
+    ∙ onward-absent _ _ _ _ _ (g .ids) (g .counted) (omega arith) (t .before .before .command .ensures) (not-true _ (t .if1 .taken)))
+    (g .counted) (search needs) (g .list)
 
 pass-requires : tie.Need-pass-requires Inv-loop μ-loop
 pass-requires c κs = search needs
 
-add-silent : tie.Need-add-silent Inv-loop μ-loop
-add-silent c = search needs
+mul-put : tie.Need-mul-put Inv-loop μ-loop
+mul-put c = search needs
 
-silent-requires : tie.Need-silent-requires Inv-loop μ-loop
-silent-requires c κs = search needs
-
-returns-2 : tie.Need-returns-2 Inv-loop μ-loop
-returns-2 c =
-    let t = c .before in
-    let e = t .before .before .before in
-    let l = e .before .before .before .before .before .loop in
-    stands (c .silent .ensures)
-    (l .inv .2
-    ∙ onward-silenced _ _ _ _ _ (take (l .count) (l .ids)) (counted (e .before .before .before .before)) (omega arith)
-    (e .before .before .command .ensures) (not-false _ (e .if1 .left)) (t .before .before .pass .ensures) (t .if2 .taken))
-    (l .inv .0) (l .inv .1)
-
-mul-ids : tie.Need-mul-ids Inv-loop μ-loop
-mul-ids c = search needs
-
-array-write-ids : tie.Need-array-write-ids Inv-loop μ-loop
-array-write-ids c = search needs
+put-requires : tie.Need-put-requires Inv-loop μ-loop
+put-requires c κs = omega arith
 
 add-count : tie.Need-add-count Inv-loop μ-loop
 add-count c = search needs
@@ -91,51 +99,64 @@ add-count c = search needs
 enum-told : tie.Need-enum-told Inv-loop μ-loop
 enum-told c = search needs
 
-complete-requires-2 : tie.Need-complete-requires-2 Inv-loop μ-loop
-complete-requires-2 c κs = search needs
+listed-requires-2 : tie.Need-listed-requires-2 Inv-loop μ-loop
+listed-requires-2 c κs = search needs
 
-returns-3 : tie.Need-returns-3 Inv-loop μ-loop
-returns-3 c =
+same-length-2 : tie.Need-same-length-2 Inv-loop μ-loop
+same-length-2 c = same-more (c .before .before .before .before .before)
+
+returns-2 : tie.Need-returns-2 Inv-loop μ-loop
+unfolding ids-of
+returns-2 c =
     let t = c .before in
-    let p = t .before .before .before .before in
-    let e = p .before in
-    let l = e .before .before .before .before .before .loop in
-    stands (c .complete2 .ensures)
-    (l .inv .2
-    ∙ onward-last _ _ _ _ _ (take (l .count) (l .ids)) (counted (e .before .before .before .before)) (omega arith)
-    (e .before .before .command .ensures) (not-false _ (e .if1 .left)) (p .pass .ensures) (grown (t .before .before))
-    (t .before .before .if2 .left) (t .enum-told .given .1))
-    (omega arith) (simp length-set (l .inv .1))
+    let z = t .before .before .before .before in
+    let e = z .before .before .before .before in
+    let o = e .before .before .before .before .before in
+    let g = o .loop .inv .2 in
+    stands (o .before .before .args .list .now) (ids-of z)
+    (g .whole
+    ∙ onward-last _ _ _ _ _ (g .ids) (g .counted) (omega arith) (e .before .before .command .ensures) (not-false _ (e .if1 .left))
+    (z .before .before .before .pass .ensures) (t .enum-told .given .1))
+    (counted-more z) (search needs) (list-more z)
 
 enum-known-noted : tie.Need-enum-known-noted Inv-loop μ-loop
 enum-known-noted c = search needs
 
 loop-less : tie.Need-loop-less Inv-loop μ-loop
-loop-less c = search needs
+loop-less c = omega arith
 
 loop-again : tie.Need-loop-again Inv-loop μ-loop
+unfolding ids-of
 loop-again c =
-    let p = c .before .before .before .before .before in
-    let e = p .before in
-    let l = e .before .before .before .before .before .loop in (
+    let z = c .before .before .before .before .before in
+    let e = z .before .before .before .before in
+    let o = e .before .before .before .before .before in
+    let g = o .loop .inv .2 in (
       omega arith,
-      simp length-set (l .inv .1),
-      l .inv .2
-          ∙ onward-more _ _ _ _ _ (take (l .count) (l .ids)) (counted (e .before .before .before .before)) (omega arith)
-          (e .before .before .command .ensures) (not-false _ (e .if1 .left)) (p .pass .ensures)
-          (grown (c .before .before .before)) (c .before .before .before .if2 .left) _ (c .before .noted .given .1),
+      omega arith,
+      record {
+        ids = ids-of z;
+        counted = counted-more z;
+        list = list-more z;
+        whole =
+            g .whole
+            ∙ onward-more _ _ _ _ _ (g .ids) (g .counted) (omega arith) (e .before .before .command .ensures) (not-false _ (e .if1 .left))
+            (z .before .before .before .pass .ensures) _ (c .before .noted .given .1);
+      },
     )
 
-exhausted-requires : tie.Need-exhausted-requires Inv-loop μ-loop
-exhausted-requires c κs = search needs
+listed-requires-3 : tie.Need-listed-requires-3 Inv-loop μ-loop
+listed-requires-3 c κs = search needs
 
-returns-4 : tie.Need-returns-4 Inv-loop μ-loop
-returns-4 c =
-    let l = c .before .before .loop in
-    stands (c .exhausted .ensures)
-    (l .inv .2
-    ∙ onward-over _ _ _ _ _ (take (l .count) (l .ids)) (length-take-le (l .count) (l .ids) (omega arith)) (omega arith))
-    (l .inv .0) (l .inv .1)
+same-length-3 : tie.Need-same-length-3 Inv-loop μ-loop
+same-length-3 c = c .before .before .loop .inv .1
+
+returns-3 : tie.Need-returns-3 Inv-loop μ-loop
+returns-3 c =
+    let o = c .before .before in
+    let g = o .loop .inv .2 in
+    stands (o .before .before .args .list .now) (g .ids)
+    (g .whole ∙ onward-over _ _ _ _ _ (g .ids) (g .counted) (omega arith)) (g .counted) (search needs) (g .list)
 
 pub passes-spec : {M : Type 1} → statement M
 passes-spec =
@@ -146,21 +167,21 @@ passes-spec =
     loop-holds
     slice-aggregate-command
     command-requires
-    add-complete
-    complete-requires
+    add-listed
+    listed-requires
+    same-length
     returns
     pass-requires
-    add-silent
-    silent-requires
-    returns-2
-    mul-ids
-    array-write-ids
+    mul-put
+    put-requires
     add-count
     enum-told
-    complete-requires-2
-    returns-3
+    listed-requires-2
+    same-length-2
+    returns-2
     enum-known-noted
     loop-less
     loop-again
-    exhausted-requires
-    returns-4)
+    listed-requires-3
+    same-length-3
+    returns-3)
