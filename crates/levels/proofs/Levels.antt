@@ -3,7 +3,7 @@
 --   there                  presence means that an ID is there
 --   begins                 a pass begins on a line with the IDs that were there when the search began, nothing pending
 --   never-both-one         the statement
---   levels                 the statement, and that the passes are those of the search
+--   levels                 the statement, and that its triplets are those of the search
 use Prim.Native.Nat.{ℕ, zero, suc, _<_}
 use mathlib.Core.Bool.{Bool, true, false, cond, false≢true}
 use mathlib.Core.List.{List, [], _∷_, List·Memᴰ·cases-cons, List·Memᴰ·not-nil}
@@ -137,5 +137,9 @@ unfolding passesTaken search endsOf
 ends zero s = refl
 ends (suc b) s = ends-from (suc b) 0 Nowhere (command (0xF0 ∷ []) s)
 
+whole : (p : Pass) → afterTriplet 63 p ≡ passed (p .previous) (p .conflict) (p .bridge) .bridge
+unfolding afterTriplet passed
+whole p = refl
+
 pub levels : Levels
-levels = record { never = never-both-one; used = used; ends = ends }
+levels = record { never = never-both-one; whole = whole; used = used; ends = ends }

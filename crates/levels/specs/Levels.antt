@@ -5,11 +5,11 @@
 --   bothOne s            both levels are 1, as the bridge s shows them
 --   endOf p              the ID at which p ends
 --   follow c l           the passes after one that ended with the last conflict c, if l are those that a conflict leads to
---   takenFrom b i c s   the passes that `searched b i c s` takes, in their order
---   passesTaken b s         those of a search that is allowed b passes, from the state s on
+--   takenFrom b i c s    the passes that `searched b i c s` takes, in their order
+--   passesTaken b s      those of a search that is allowed b passes, from the state s on
 --   endsOf l             the IDs at which those of l end that began with presence
 --   NeverBothOne s       from s on, with any allowance, no triplet of a pass that began with presence ends with both levels 1
---   Levels               that this is so, and that the passes spoken of are those of the search
+--   Levels               that this is so, and that these triplets are those of the search
 use Prim.Native.Nat.{ℕ, zero, suc, _<_}
 use mathlib.Core.Bool.{Bool, true, false, cond, _&&_}
 use mathlib.Core.List.{List, [], _∷_}
@@ -60,7 +60,8 @@ takenFrom zero i c s = []
 takenFrom (suc b) i c s =
     let r = command (0xB4 ∷ []) s in
     let w = passed i c r in
-    record { previous = i; conflict = c; bridge = r } ∷ cond (r .registers .status .ppd) (follow (w .conflict) (takenFrom b (w .id) (w .conflict) (w .bridge))) []
+    let more = follow (w .conflict) (takenFrom b (w .id) (w .conflict) (w .bridge)) in
+    record { previous = i; conflict = c; bridge = r } ∷ cond (r .registers .status .ppd) more []
 
 -- With no pass allowed nothing is issued; otherwise one Device Reset comes first.
 unfoldable pub passesTaken : ℕ → Bridge → List Pass
@@ -78,8 +79,10 @@ abbrev pub NeverBothOne : Bridge → Type 0
 NeverBothOne s = (b : ℕ) (p : Pass) → Among p (passesTaken b s) → WithPresence p → (k : ℕ) → k < 64 → bothOne (afterTriplet k p) ≡ false
 
 pub record Levels : Type 0 where
-  -- No pass that began with presence meets a triplet with both levels 1, from any state that calls reach: so there is no case for number 10.
+  -- From every state that calls reach: no pass that began with presence meets a triplet with both levels 1, so number 10 has no case.
   pub never : (s : Bridge) → Reached s → NeverBothOne s
+  -- The triplets are those of the pass: the last one leaves the bridge that the pass leaves.
+  pub whole : (p : Pass) → afterTriplet 63 p ≡ passed (p .previous) (p .conflict) (p .bridge) .bridge
   -- The passes are those of the search: as many as it says that it used, and those that began with presence end at the IDs that it lists.
   pub used : (b : ℕ) (s : Bridge) → length (passesTaken b s) ≡ search b s .passes
   pub ends : (b : ℕ) (s : Bridge) → endsOf (passesTaken b s) ≡ search b s .ids

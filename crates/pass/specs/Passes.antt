@@ -1,10 +1,10 @@
 -- The passes of a search (document 01, "The search").
---   Result               what a search comes to
+--   Result                  what a search comes to
 --   absent s, exhausted s   nothing is found: no presence; no pass left
 --   lastOne w, before i r   an ID is found: the last one, by the walk w; the ID i, and then what r says
---   continued c w r      what a walk w with the last conflict c comes to, if the passes after it come to r
---   searched b i c s     what at most b passes from the bridge s on come to
---   search b s           what a search that is allowed b passes comes to: IDs, passes used, completeness, the bridge afterwards
+--   continued c w r         what a walk w with the last conflict c comes to, if the passes after it come to r
+--   searched b i c s        what at most b passes from the bridge s on come to
+--   search b s              what a search that is allowed b passes comes to: IDs, passes used, completeness, the bridge afterwards
 use Prim.Native.Nat.{ℕ, zero, suc}
 use mathlib.Core.Bool.{Bool, true, false, cond}
 use mathlib.Core.List.{List, [], _∷_}

@@ -22,37 +22,43 @@ abbrev μ-loop : tie.MeasureT-loop
 
 -- ---- what a pass has found
 
--- where the pass has put its ID
+-- where a pass has put its ID, and the turn and the loop that it is in
 abbrev Z : Type 0
 Z = tie.After-put Inv-loop μ-loop
 
-ids-of : Z → List ℕ
-ids-of z =
-    let e = z .before .before .before .before in
-    e .before .before .before .before .before .loop .inv .2 .ids ++ z .before .before .before .pass .result .id ∷ []
+abbrev turn : Z → tie.In-loop Inv-loop μ-loop
+turn z = z .before .before .before .before .before .before .before .before
 
-counted-more : (z : Z) → (let e = z .before .before .before .before in length (ids-of z) ≡ e .before .before .before .before .before .loop .count + 1)
-unfolding ids-of
+abbrev loop-of : Z → tie.At-loop Inv-loop μ-loop
+loop-of z = turn z .before
+
+abbrev list-of : Z → List ℕ
+list-of z = loop-of z .before .before .args .list .now
+
+abbrev found : Z → ℕ
+found z = z .before .before .before .pass .result .id
+
+abbrev ids-of : Z → List ℕ
+ids-of z = loop-of z .loop .inv .2 .ids ++ found z ∷ []
+
+counted-more : (z : Z) → length (ids-of z) ≡ loop-of z .loop .count + 1
 counted-more z =
-    let g = z .before .before .before .before .before .before .before .before .before .loop .inv .2 in
-    length-append (g .ids) _ ∙ ap (λ (n : ℕ). n + 1) (g .counted)
+    let g = loop-of z .loop .inv .2 in length-append (g .ids) (found z ∷ []) ∙ ap (λ (n : ℕ). n + 1) (g .counted)
 
-list-more : (z : Z) → (let o = z .before .before .before .before .before .before .before .before .before in z .put .last .0 ≡ written (ids-of z) (o .before .before .args .list .now))
-unfolding ids-of
+list-more : (z : Z) → z .put .last .0 ≡ written (ids-of z) (list-of z)
 list-more z =
-    let o = z .before .before .before .before .before .before .before .before .before in
-    let g = o .loop .inv .2 in
-    let x = z .before .before .before .pass .result .id in
-    let put : z .put .last .0 ≡ paste (o .loop .list) (8 * o .loop .count) (bytesFrom 8 x) 8 = search needs in
+    let l = loop-of z .loop in
+    let g = l .inv .2 in
+    let put : z .put .last .0 ≡ paste (l .list) (8 * l .count) (bytesFrom 8 (found z)) 8 = search needs in
     put
-    ∙ ap (λ (e : List ℕ). paste e (8 * o .loop .count) (bytesFrom 8 x) 8) (g .list)
-    ∙ written-more (g .ids) x (o .loop .count) (o .before .before .args .list .now) (g .counted)
+    ∙ ap (λ (e : List ℕ). paste e (8 * l .count) (bytesFrom 8 (found z)) 8) (g .list)
+    ∙ written-more (g .ids) (found z) (l .count) (list-of z) (g .counted)
 
-same-more : (z : Z) → (let o = z .before .before .before .before .before .before .before .before .before in length (z .put .last .0) ≡ length (o .before .before .args .list .now))
+same-more : (z : Z) → length (z .put .last .0) ≡ length (list-of z)
 same-more z =
-    let t = z .before .before .before .before .before .before .before .before in
     ap length (list-more z)
-    ∙ length-written (ids-of z) _ (omega (arith, counted-more z, t .loop-test .taken, t .before .before .before .pre .1))
+    ∙ length-written (ids-of z) (list-of z)
+    (omega (arith, counted-more z, turn z .loop-test .taken, loop-of z .before .before .pre .1))
 
 -- ---- the needs
 
@@ -106,14 +112,12 @@ same-length-2 : tie.Need-same-length-2 Inv-loop μ-loop
 same-length-2 c = same-more (c .before .before .before .before .before)
 
 returns-2 : tie.Need-returns-2 Inv-loop μ-loop
-unfolding ids-of
 returns-2 c =
     let t = c .before in
     let z = t .before .before .before .before in
     let e = z .before .before .before .before in
-    let o = e .before .before .before .before .before in
-    let g = o .loop .inv .2 in
-    stands (o .before .before .args .list .now) (ids-of z)
+    let g = loop-of z .loop .inv .2 in
+    stands (list-of z) (ids-of z)
     (g .whole
     ∙ onward-last _ _ _ _ _ (g .ids) (g .counted) (omega arith) (e .before .before .command .ensures) (not-false _ (e .if1 .left))
     (z .before .before .before .pass .ensures) (t .enum-told .given .1))
@@ -126,12 +130,10 @@ loop-less : tie.Need-loop-less Inv-loop μ-loop
 loop-less c = omega arith
 
 loop-again : tie.Need-loop-again Inv-loop μ-loop
-unfolding ids-of
 loop-again c =
     let z = c .before .before .before .before .before in
     let e = z .before .before .before .before in
-    let o = e .before .before .before .before .before in
-    let g = o .loop .inv .2 in (
+    let g = loop-of z .loop .inv .2 in (
       omega arith,
       omega arith,
       record {
