@@ -31,7 +31,7 @@ use Rattle.search.proofs.Bytes.{length-listOf, listOf-append}
 use Rattle.search.proofs.Call.{short, done}
 use Rattle.pass.specs.Passes.{search}
 use Rattle.enumeration.proofs.Order.{in-order-unique}
-use Rattle.demand.specs.Demand.{Outcome, Search, Done, bytesListed, idsAt, afterResume, Resumes, Demand, Meets}
+use Rattle.demand.specs.Demand.{Outcome, Search, Done, bytesListed, idsAt, afterResume, Resumes, Meets}
 use Rattle.demand.specs.Contract.{Promised}
 use Rattle.demand.proofs.Reached.{reached-search}
 use Rattle.demand.proofs.Search.{order-of, order-is, listed-of, number-of, complete-when, passes-used, longer-by, kept-ids, resume-kept, resume-last, at-most, fitting-one}

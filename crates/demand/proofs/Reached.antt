@@ -28,7 +28,7 @@ use Rattle.bridge.specs.Reached.Reached.{on, write, wait, fit}
 use Rattle.pass.specs.declared.Conflict.{Conflict}
 use Rattle.pass.specs.declared.Conflict.the-variants.{Nowhere, At}
 use Rattle.pass.specs.declared.Walk.{Walk}
-use Rattle.pass.specs.Pass.{direction, tripletByte, tookTriplet, tripled, walked, passed}
+use Rattle.pass.specs.Pass.{direction, tripletByte, tookTriplet, tripled, walked, begun, passed}
 use Rattle.pass.specs.Passes.{Result, absent, continued, searched, search}
 use Rattle.enumeration.specs.Order.{Among, Distinct, Narrow}
 use Rattle.searching.proofs.Words.{Rest, lineOf, Holds}
@@ -211,10 +211,7 @@ reached-walked (suc n) k i c w r = reached-walked n (suc k) i c (tripled i c k w
 
 reached-passed : (i : ℕ) (c : Conflict) {b : Bridge} → Reached b → Reached (passed i c b .bridge)
 unfolding passed
-reached-passed i c {b} r =
-    reached-walked 64 0 i c
-    (record { bridge = command (0xA5 ∷ 0xF0 ∷ []) b; id = 0; conflict = Nowhere })
-    (reached-byte 0xF0 (lit< tt) r)
+reached-passed i c {b} r = reached-walked 64 0 i c (begun (command (0xA5 ∷ 0xF0 ∷ []) b)) (reached-byte 0xF0 (lit< tt) r)
 
 reached-searched : (m i : ℕ) (c : Conflict) (b : Bridge) → Reached b → Reached (searched m i c b .bridge)
 unfolding searched continued

@@ -26,6 +26,7 @@ use Rattle.pass.specs.declared.Conflict.the-variants.{Nowhere, At}
 use Rattle.pass.specs.declared.Walk.{Walk}
 use Rattle.pass.specs.Pass.{passed}
 use Rattle.pass.specs.Passes.{Result, absent, continued, searched, search}
+use Rattle.pass.proofs.Next.{next as walk}
 use Rattle.searching.proofs.Words.{Idle}
 use Rattle.searching.proofs.Words.Rest.{free}
 use Rattle.searching.proofs.Pass.{walked-heard, reset-ppd, searching-under, passed-on, under-idle}
@@ -35,12 +36,9 @@ use Rattle.levels.specs.Levels.{Pass, WithPresence, afterTriplet, bothOn
 
 -- ---- the passes of a search
 
--- the pass that begins next, and how it ends
+-- the pass that begins next
 abbrev next : ℕ → Conflict → Bridge → Pass
 next i c s = record { previous = i; conflict = c; bridge = command (0xB4 ∷ []) s }
-
-abbrev walk : ℕ → Conflict → Bridge → Walk
-walk i c s = passed i c (command (0xB4 ∷ []) s)
 
 used-from : (b i : ℕ) (c : Conflict) (s : Bridge) → length (takenFrom b i c s) ≡ searched b i c s .passes
 unfolding takenFrom searched follow continued

@@ -1,11 +1,10 @@
 -- The wrong searches, each against the demand on a line of A, of C, of A and C, or of A, B and C.
 --   ours             the search itself meets the demand by the same frame
 --   resumed-one      a Resume selects one probe: two that are said to be the one are the same
-use Prim.Native.Nat.{ℕ, zero, suc, _+_, _*_, _/_, _%_, _^_, _≤_, _<_, min, max}
+use Prim.Native.Nat.{ℕ, zero, suc, _+_, _*_, _%_, _≤_, _<_, min, max}
 use mathlib.Core.Bool.{Bool, true, false, cond, _&&_, false≢true}
 use mathlib.Core.List.{List, [], _∷_, _++_, List·Memᴰ·not-nil, Memᴰ·of-map}
 use mathlib.Core.Path.{_≡_, refl, sym, ap, ap₂, subst, _∙_}
-use native.Mathlib.Nat.{div-one}
 use native.Mathlib.Decide.{decLe}
 use native.Mathlib.Omega.{arith}
 use borrow.Author.Tests.{lt-ltb, le-ltb, ltb-true, eqb-true, eq-eqb}
@@ -32,7 +31,7 @@ use Rattle.pass.specs.declared.Walk.{Walk}
 use Rattle.search.specs.declared.Answer.the-variants.{Refused}
 use Rattle.search.specs.Search.{listed, answerValues, bytesFrom, listOf, written}
 use Rattle.search.proofs.Call.{short, done}
-use Rattle.search.proofs.Bytes.{length-listOf, getD-listOf}
+use Rattle.search.proofs.Bytes.{listOf-append}
 use Rattle.enumeration.specs.Order.{InOrder}
 use Rattle.paper.specs.Paper.{a, b, c, withOne}
 use Rattle.paper.proofs.Paper.{paper}
@@ -237,17 +236,11 @@ resumed-one x y l p q =
 
 -- the low byte of the last ID listed
 last-byte : (p : List ℕ) (x n : ℕ) (l : List ℕ) → l ≡ listOf (p ++ x ∷ []) → length l ≡ 8 * suc n → getD l (8 * n) 0 ≡ x % 256
+unfolding listOf bytesFrom
 last-byte p x n l e h =
-    let whole = length-append p (x ∷ []) in
-    let bytes = length-listOf (p ++ x ∷ []) in
-    let same = ap length e in
-    let place : 8 * n / 8 ≡ n = omega arith in
-    let low : 8 * n % 8 ≡ 0 = omega arith in
-    ap (λ (v : List ℕ). getD v (8 * n) 0) e
-    ∙ getD-listOf (p ++ x ∷ []) (8 * n) (omega arith)
-    ∙ ap₂ (λ (i j : ℕ). getD (p ++ x ∷ []) i 0 / 2 ^ (8 * j) % 256) place low
-    ∙ ap (λ (v : ℕ). v / 1 % 256) (getD-at p x [] 0 n (omega arith))
-    ∙ ap (λ (v : ℕ). v % 256) (div-one x)
+    let split = e ∙ listOf-append p (x ∷ []) in
+    ap (λ (v : List ℕ). getD v (8 * n) 0) split
+    ∙ getD-at (listOf p) (x % 256) _ 0 (8 * n) (omega (arith, ap length split, length-append (listOf p) (listOf (x ∷ []))))
 
 -- the bytes that are due on the line of A, B and C
 bytes-due : (run : Search) → Meets run → (n : ℕ) (d : List ℕ) (o : Outcome) → Done run three n d o → bytesListed o ≡ take (8 * min n 3) (listOf (take n (numberOf c ∷ numberOf b ∷ numberOf a ∷ [])) ++ drop (8 * min n 3) d)

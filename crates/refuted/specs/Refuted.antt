@@ -1,4 +1,4 @@
--- What is wrong with each wrong version: a field for each, beside the words of document 01 that name it.
+-- What is wrong with each wrong version: a field for each, beside the words of the document that name it.
 use Prim.Native.Nat.{ℕ, suc, _<_}
 use mathlib.Core.Bool.{Bool, true, false}
 use mathlib.Core.List.{List, [], _∷_}

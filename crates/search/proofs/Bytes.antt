@@ -1,19 +1,16 @@
 -- The bytes of a list of IDs.
 --   length-listOf    eight for each ID
---   getD-bytesFrom, getD-listOf    byte k of an ID; byte n of the list is byte n % 8 of ID n / 8
+--   getD-bytesFrom   byte k of an ID
 --   listOf-append    the bytes of two lists of IDs
 --   written-more, length-written   one ID more in the list buffer, which is as long as it was
-use mathlib.Core.Path.{_≡_, refl, sym, ap, ap₂, subst, _∙_}
+use mathlib.Core.Path.{_≡_, refl, sym, ap, ap₂, _∙_}
 use mathlib.Core.List.{List, [], _∷_, _++_, append-nil, append-assoc}
-use Prim.Native.Nat.{ℕ, zero, suc, _+_, _*_, _/_, _%_, _^_, _<_, _≤_, _-_}
-use native.Mathlib.Nat.{add-sub-of-le, div-div-eq-div-mul, div-one, add-div-left, add-mod-left, div-eq-of-lt, mod-eq-of-lt}
-use native.Mathlib.Numerals.{add-one}
-use native.Mathlib.Decide.{decLe}
+use Prim.Native.Nat.{ℕ, zero, suc, _+_, _*_, _/_, _%_, _^_, _<_, _≤_}
+use native.Mathlib.Nat.{div-div-eq-div-mul, div-one}
 use native.Mathlib.Omega.{arith}
-use lib.Dec.{lit<}
-use lib.ListN.{length, getD, drop, length-append, length-drop, List·getD-append}
+use lib.ListN.{length, getD, drop, length-append, length-drop}
 use lib.Pow.{pow-add}
-use lib.Seq.{getD-append-add, take-all, take-at, drop-append-add, drop-drop, paste}
+use lib.Seq.{take-all, take-at, drop-append-add, drop-drop, paste}
 use Rattle.search.specs.Search.{bytesFrom, listOf, written}
 
 pub length-bytesFrom : (n i : ℕ) → length (bytesFrom n i) ≡ n
@@ -39,27 +36,6 @@ getD-bytesFrom (suc n) i (suc k) h = getD-bytesFrom n (i / 256) k (omega arith) 
         div-div-eq-div-mul i 256 (2 ^ (8 * k))
         ∙ ap (λ (m : ℕ). i / m) (sym (pow-add 2 8 (8 * k)))
         ∙ ap (λ (m : ℕ). i / 2 ^ m) (omega arith)
-
-pub getD-listOf : (ids : List ℕ) (n : ℕ) → n < 8 * length ids → getD (listOf ids) n 0 ≡ getD ids (n / 8) 0 / 2 ^ (8 * (n % 8)) % 256
-unfolding listOf
-getD-listOf [] n h = absurd (omega arith)
-getD-listOf (i ∷ ids) n h = go (getD-listOf ids (n - 8)) (decLe 8 n)
-  where
-    later : (m : ℕ) → getD (listOf ids) m 0 ≡ getD ids (m / 8) 0 / 2 ^ (8 * (m % 8)) % 256 → getD (bytesFrom 8 i ++ listOf ids) (8 + m) 0 ≡ getD (i ∷ ids) ((8 + m) / 8) 0 / 2 ^ (8 * ((8 + m) % 8)) % 256
-    later m g =
-        ap (λ (k : ℕ). getD (bytesFrom 8 i ++ listOf ids) (k + m) 0) (sym (length-bytesFrom 8 i))
-        ∙ getD-append-add (bytesFrom 8 i) (listOf ids) m 0
-        ∙ g
-        ∙ sym (ap₂ (λ (q r : ℕ). getD (i ∷ ids) q 0 / 2 ^ (8 * r) % 256) (add-div-left m (lit< tt) ∙ add-one (m / 8)) (add-mod-left 8 m))
-
-    go : (n - 8 < 8 * length ids → getD (listOf ids) (n - 8) 0 ≡ getD ids ((n - 8) / 8) 0 / 2 ^ (8 * ((n - 8) % 8)) % 256) → Dec (8 ≤ n) → getD (bytesFrom 8 i ++ listOf ids) n 0 ≡ getD (i ∷ ids) (n / 8) 0 / 2 ^ (8 * (n % 8)) % 256
-    go rest (yes g) =
-        subst (λ (k : ℕ). getD (bytesFrom 8 i ++ listOf ids) k 0 ≡ getD (i ∷ ids) (k / 8) 0 / 2 ^ (8 * (k % 8)) % 256) (add-sub-of-le g)
-        (later (n - 8) (rest (omega arith)))
-    go rest (no g) =
-        List·getD-append (bytesFrom 8 i) (listOf ids) 0 n (omega (arith, length-bytesFrom 8 i))
-        ∙ getD-bytesFrom 8 i n (omega arith)
-        ∙ sym (ap₂ (λ (q r : ℕ). getD (i ∷ ids) q 0 / 2 ^ (8 * r) % 256) (div-eq-of-lt {n = n} {m = 8} (omega arith)) (mod-eq-of-lt {n = n} {m = 8} (omega arith)))
 
 -- the bytes of two lists of IDs, one behind the other
 pub listOf-append : (p q : List ℕ) → listOf (p ++ q) ≡ listOf p ++ listOf q

@@ -62,7 +62,7 @@ loop-again c =
           (tripled-by (s .before .args .previous) (s .before .args .before) (l .k) w
           (b .command .ensures
           ∙ ap (λ (x : ℕ). command (0x78 ∷ x ∷ []) (l .bridge)) (t .triplet-byte .ensures ∙ ap tripletByte (t .before .direction .ensures)))
-          (c .before .with-bit .ensures .0) (c .noted .ensures)),
+          (search needs) (c .noted .ensures)),
     )
 
 returns : tie.Need-returns Inv-loop μ-loop
