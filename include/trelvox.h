@@ -1,5 +1,6 @@
 /*
- * Trelvox: checksums of the 1-Wire parts, and packets for the DS28E17.
+ * Trelvox: checksums of the 1-Wire parts, and packets for the DS28E17, formed
+ * and read.
  *
  * Link with libtrelvox.a (x86-64). Every call takes every input that keeps the
  * two rules below, and is proved to give what is written here. No call keeps
@@ -10,8 +11,9 @@
  *   - A pointer and the length behind it are one argument: that many bytes,
  *     all of them the caller's to lend. Where the length is 0 the pointer is
  *     not used and may be NULL.
- *   - A buffer must not overlap the data that goes into it, and nothing else
- *     may write either of them during the call.
+ *   - A buffer must not overlap the data that goes into it, nor the parts of
+ *     a packet the packet, and nothing else may write any of them during the
+ *     call.
  *   Where one of these rules is broken, nothing is promised.
  *
  * Forming a packet
@@ -30,6 +32,33 @@
  *   An address is the 7-bit address of the I2C peripheral, 0 to 127, without
  *   the read/write bit. The counts are the number of data bytes written, L
  *   below, and the number of bytes to read, R below.
+ *
+ * Reading a packet
+ *   trelvox_read returns one answer, which has a number and a place:
+ *
+ *     TRELVOX_NUMBER(answer)     the place, TRELVOX_PLACE(answer)
+ *
+ *     TRELVOX_DONE               accepted, and the parts are set; no place
+ *     TRELVOX_UNKNOWN_CODE       the first byte is not 4Bh, 87h or 2Dh; the
+ *                                place is its offset, 0
+ *     TRELVOX_WRONG_LENGTH       too short or too long for its form; the place
+ *                                is how many bytes the form wants: L + 5 for
+ *                                4Bh, 5 for 87h, L + 6 for 2Dh. It is 5 where
+ *                                the packet ends before its third byte, an
+ *                                empty packet included
+ *     TRELVOX_ZERO_COUNT         L or R is 0; the place is the offset of that
+ *                                count: 2, or L + 3 for R of 2Dh; where both
+ *                                are 0, that of L
+ *     TRELVOX_WRONG_BIT          the low bit of the address byte is not that
+ *                                of the form, 1 for 87h and else 0; the place
+ *                                is its offset, 1
+ *     TRELVOX_WRONG_CRC          of its form, but the CRC-16 is wrong; no
+ *                                place
+ *
+ *   They are looked at in this order from TRELVOX_UNKNOWN_CODE on, and the
+ *   first that holds gives the answer; a length is held to an L of 0 as it
+ *   stands. Offsets count from 0. No place is 0, so that an accepted packet
+ *   gives the answer 0. A refused call changes none of the parts.
  *
  * Example, the file examples/c/level.c; it prints 2D 40 01 00 02 96 38
  *
@@ -55,6 +84,45 @@
  *             printf("%02X%s", (unsigned)packet[i], i + 1 < length ? " " : "\n");
  *         return 0;
  *     }
+ *
+ * Example, the file examples/c/wrong.c; beside each packet stands what it prints
+ *
+ *     // Says in words what is wrong with a packet.
+ *     #include <stdio.h>
+ *
+ *     #include "trelvox.h"
+ *
+ *     static void tell(const uint8_t *packet, size_t length)
+ *     {
+ *         size_t parts[TRELVOX_PARTS];
+ *         uint32_t answer = trelvox_read(packet, length, parts);
+ *         unsigned place = TRELVOX_PLACE(answer);
+ *
+ *         switch (TRELVOX_NUMBER(answer)) {
+ *         case TRELVOX_DONE: printf("sound, for address %02X\n", (unsigned)parts[TRELVOX_ADDRESS]); break;
+ *         case TRELVOX_UNKNOWN_CODE: printf("byte %u begins no packet\n", place); break;
+ *         case TRELVOX_WRONG_LENGTH: printf("%u bytes are wanted\n", place); break;
+ *         case TRELVOX_ZERO_COUNT: printf("byte %u is a count of zero\n", place); break;
+ *         case TRELVOX_WRONG_BIT: printf("byte %u has a wrong low bit\n", place); break;
+ *         case TRELVOX_WRONG_CRC: printf("the CRC-16 is wrong\n"); break;
+ *         }
+ *     }
+ *
+ *     int main(void)
+ *     {
+ *         static const uint8_t packets[6][5] = {
+ *             {0x87, 0x41, 0x02, 0xFE, 0x47}, // sound, for address 20
+ *             {0x86, 0x41, 0x02, 0xFE, 0x47}, // byte 0 begins no packet
+ *             {0x4B, 0x40, 0x01, 0xFE, 0x47}, // 6 bytes are wanted
+ *             {0x87, 0x41, 0x00, 0xFE, 0x47}, // byte 2 is a count of zero
+ *             {0x87, 0x40, 0x02, 0xFE, 0x47}, // byte 1 has a wrong low bit
+ *             {0x87, 0x41, 0x02, 0xFE, 0x46}, // the CRC-16 is wrong
+ *         };
+ *
+ *         for (int i = 0; i < 6; i++)
+ *             tell(packets[i], sizeof packets[i]);
+ *         return 0;
+ *     }
  */
 #ifndef TRELVOX_H
 #define TRELVOX_H
@@ -66,10 +134,27 @@
 extern "C" {
 #endif
 
-/* The numbers that a forming call returns. */
+/* The numbers of forming and of reading. */
 #define TRELVOX_DONE 0
 #define TRELVOX_OUT_OF_LIMITS 11
 #define TRELVOX_BUFFER_TOO_SHORT 12
+#define TRELVOX_WRONG_CRC 14
+#define TRELVOX_UNKNOWN_CODE 16
+#define TRELVOX_WRONG_LENGTH 17
+#define TRELVOX_ZERO_COUNT 18
+#define TRELVOX_WRONG_BIT 19
+
+/* The number and the place of an answer of trelvox_read. */
+#define TRELVOX_NUMBER(answer) ((uint32_t)(answer) & 0xFF)
+#define TRELVOX_PLACE(answer) ((uint32_t)(answer) >> 8)
+
+/* Where each part of a packet stands among the parts, and how many there are. */
+#define TRELVOX_CODE 0
+#define TRELVOX_ADDRESS 1
+#define TRELVOX_START 2
+#define TRELVOX_LENGTH 3
+#define TRELVOX_COUNT 4
+#define TRELVOX_PARTS 5
 
 /*
  * The CRC-16 of bytes whose last two are the CRC-16 of those before them,
@@ -154,6 +239,29 @@ uint8_t trelvox_form_write_read(uint32_t address,
                                 const uint8_t *data, size_t data_length,
                                 uint32_t count,
                                 uint8_t *buffer, size_t buffer_length);
+
+/*
+ * Takes a packet apart, any bytes whatever.
+ *
+ *   packet, packet_length   the bytes
+ *   parts                   takes the five parts of an accepted packet:
+ *
+ *     parts[TRELVOX_CODE]      4Bh, 87h or 2Dh
+ *     parts[TRELVOX_ADDRESS]   0 to 127
+ *     parts[TRELVOX_START]     the offset in the packet of the data to be
+ *                              written: 3, and for 87h, which has none, 0
+ *     parts[TRELVOX_LENGTH]    how many bytes of data: L, and for 87h 0
+ *     parts[TRELVOX_COUNT]     how many bytes to read: R, and for 4Bh 0
+ *
+ * Returns an answer, of which TRELVOX_NUMBER gives TRELVOX_DONE,
+ * TRELVOX_UNKNOWN_CODE, TRELVOX_WRONG_LENGTH, TRELVOX_ZERO_COUNT,
+ * TRELVOX_WRONG_BIT or TRELVOX_WRONG_CRC, and TRELVOX_PLACE the place. Where
+ * the number is not TRELVOX_DONE the parts stay as they were.
+ * 87 41 02 FE 47 gives 0 and the parts 87h, 20h, 0, 0, 2; without its last
+ * byte it gives TRELVOX_WRONG_LENGTH with the place 5.
+ */
+uint32_t trelvox_read(const uint8_t *packet, size_t packet_length,
+                      size_t parts[TRELVOX_PARTS]);
 
 #ifdef __cplusplus
 }

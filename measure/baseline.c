@@ -55,25 +55,33 @@ uint8_t baseline_form_write_read(uint32_t address, const uint8_t *data, size_t d
     return 0;
 }
 
-/* The length that a packet of this form has, 0 where it is of none. */
-static size_t length_of_form(const uint8_t *packet)
+/* A number and its place. */
+static uint32_t told(uint32_t number, size_t place)
 {
-    int odd = packet[1] & 1;
-    if (packet[2] == 0)
-        return 0;
-    switch (packet[0]) {
-    case 0x4B:
-        return odd ? 0 : (size_t)packet[2] + 5;
-    case 0x87:
-        return odd ? 5 : 0;
-    case 0x2D:
-        return odd ? 0 : (size_t)packet[2] + 6;
-    default:
-        return 0;
-    }
+    return number | (uint32_t)place << 8;
 }
 
-static void set_parts(const uint8_t *packet, size_t length, uint64_t *parts)
+/* What is wrong with the form of a packet; 0 where nothing is. */
+static uint32_t wrong_form(const uint8_t *packet, size_t length)
+{
+    size_t wanted;
+    if (length > 0 && packet[0] != 0x4B && packet[0] != 0x87 && packet[0] != 0x2D)
+        return told(16, 0);
+    if (length < 3)
+        return told(17, 5);
+    wanted = packet[0] == 0x87 ? 5 : packet[0] == 0x4B ? (size_t)packet[2] + 5 : (size_t)packet[2] + 6;
+    if (length != wanted)
+        return told(17, wanted);
+    if (packet[2] == 0)
+        return told(18, 2);
+    if (packet[0] == 0x2D && packet[length - 3] == 0)
+        return told(18, length - 3);
+    if ((packet[1] & 1) != (packet[0] == 0x87))
+        return told(19, 1);
+    return 0;
+}
+
+static void set_parts(const uint8_t *packet, size_t length, size_t *parts)
 {
     int has_data = packet[0] != 0x87;
     parts[0] = packet[0];
@@ -83,17 +91,15 @@ static void set_parts(const uint8_t *packet, size_t length, uint64_t *parts)
     parts[4] = packet[0] == 0x4B ? 0 : packet[length - 3];
 }
 
-uint8_t baseline_read(const uint8_t *packet, size_t length, uint64_t *parts)
+uint32_t baseline_read(const uint8_t *packet, size_t length, size_t *parts)
 {
-    if (length < 5 || length_of_form(packet) != length)
-        return 13;
-    if (packet[0] == 0x2D && packet[length - 3] == 0)
-        return 13;
+    uint32_t wrong = wrong_form(packet, length);
+    if (wrong != 0)
+        return wrong;
     uint16_t sent = (uint16_t)(packet[length - 2] | packet[length - 1] << 8);
     uint16_t wanted = (uint16_t)~baseline_crc16(packet, length - 2);
     if (wanted != sent)
-        return 14;
-    memset(parts, 0, 5 * sizeof *parts);
+        return told(14, 0);
     set_parts(packet, length, parts);
     return 0;
 }

@@ -18,7 +18,7 @@ uint16_t baseline_crc16(const uint8_t *bytes, size_t length);
 uint8_t baseline_form_write_read(uint32_t address, const uint8_t *data, size_t data_length,
                                  uint32_t count, uint8_t *buffer, size_t buffer_length);
 
-/* As trial_read: code, address, start of the data, its length, R. */
-uint8_t baseline_read(const uint8_t *packet, size_t length, uint64_t *parts);
+/* As trelvox_read: number and place; the parts are code, address, start of the data, its length, R. */
+uint32_t baseline_read(const uint8_t *packet, size_t length, size_t *parts);
 
 #endif

@@ -23,7 +23,6 @@
 
 #include "baseline.h"
 #include "trelvox.h"
-#include "trial.h"
 
 enum { ROUNDS = 400, ROUND_NANOSECONDS = 250000, LONGEST = 4096, DATA = 255 };
 
@@ -40,7 +39,7 @@ struct side {
     uint8_t (*crc8)(const uint8_t *bytes, size_t length);
     uint8_t (*form_write_read)(uint32_t address, const uint8_t *data, size_t data_length,
                                uint32_t count, uint8_t *buffer, size_t buffer_length);
-    uint8_t (*read)(const uint8_t *packet, size_t length, uint64_t *parts);
+    uint32_t (*read)(const uint8_t *packet, size_t length, size_t *parts);
 };
 
 static const struct side baseline = {
@@ -48,7 +47,7 @@ static const struct side baseline = {
 };
 
 static const struct side library = {
-    trelvox_crc16, trelvox_crc8, trelvox_form_write_read, trial_read,
+    trelvox_crc16, trelvox_crc8, trelvox_form_write_read, trelvox_read,
 };
 
 typedef void (*work)(const struct side *side, size_t length, unsigned long calls);
@@ -82,10 +81,11 @@ static void form_work(const struct side *side, size_t length, unsigned long call
 
 static void read_work(const struct side *side, size_t length, unsigned long calls)
 {
-    uint64_t parts[PARTS], sum = 0;
+    size_t parts[TRELVOX_PARTS];
+    uint64_t sum = 0;
     while (calls-- > 0) {
         sum += side->read(packet, length, parts);
-        sum += parts[PART_LENGTH];
+        sum += parts[TRELVOX_LENGTH];
     }
     sink = sum;
 }
@@ -144,17 +144,19 @@ static void must_agree(int agree, const char *what)
 static void check_agreement(void)
 {
     uint8_t other[TRELVOX_LONGEST_PACKET];
-    uint64_t ours[PARTS], theirs[PARTS];
+    size_t ours[TRELVOX_PARTS], theirs[TRELVOX_PARTS];
     must_agree(trelvox_crc16(bytes, LONGEST) == baseline_crc16(bytes, LONGEST), "CRC-16");
     must_agree(trelvox_crc8(bytes, LONGEST) == baseline_crc8(bytes, LONGEST), "CRC-8");
     must_agree(trelvox_form_write_read(0x20, bytes, DATA, 255, packet, sizeof packet) == 0 &&
                    baseline_form_write_read(0x20, bytes, DATA, 255, other, sizeof other) == 0 &&
                    memcmp(packet, other, sizeof packet) == 0,
                "forming");
-    must_agree(trial_read(packet, sizeof packet, ours) == 0 &&
+    must_agree(trelvox_read(packet, sizeof packet, ours) == 0 &&
                    baseline_read(packet, sizeof packet, theirs) == 0 &&
                    memcmp(ours, theirs, sizeof ours) == 0,
                "reading");
+    for (size_t length = 0; length < sizeof packet; length++)
+        must_agree(trelvox_read(packet, length, ours) == baseline_read(packet, length, theirs), "reading a part");
 }
 
 /* ---- The table ------------------------------------------------------------------------------- */

@@ -7,17 +7,21 @@ from contracts import functions
 COMMENT = re.compile(r'/\*.*?\*/', re.S)
 PROTOTYPE = re.compile(r'^(?:extern )?([a-z][\w *]*?)\s*(\w+)\(([^()]*)\)\s*;', re.M)
 SLICE = re.compile(r'&(mut )?\[(\w+)\]')
+ARRAY = re.compile(r'&(mut )?\[(\w+); (\d+)\]')
+DEFINED = re.compile(r'^#define (\w+) (\d+)$', re.M)
 ROW = re.compile(r'^\| `(trelvox_\w+)` \|', re.M)
 NUMBERS = {f'{sign}{width}': f'{kind}{width}_t' for sign, kind in (('u', 'uint'), ('i', 'int')) for width in (8, 16, 32, 64)}
 NUMBERS |= {'usize': 'size_t', '': 'void'}
 
 
 def declared(name, kind):
-    """A parameter as C has it: a number is itself, a slice a pointer and then a length."""
-    part = SLICE.fullmatch(kind)
-    if part is None:
-        return [f'{NUMBERS.get(kind, kind)} {name}']
-    return [f'{"" if part[1] else "const "}{NUMBERS[part[2]]} *{name}', f'size_t {name}_length']
+    """A parameter as C has it: a number is itself, a slice a pointer and then a length, so many numbers an array."""
+    part, array = SLICE.fullmatch(kind), ARRAY.fullmatch(kind)
+    if part is not None:
+        return [f'{"" if part[1] else "const "}{NUMBERS[part[2]]} *{name}', f'size_t {name}_length']
+    if array is not None:
+        return [f'{"" if array[1] else "const "}{NUMBERS[array[2]]} {name}[{array[3]}]']
+    return [f'{NUMBERS.get(kind, kind)} {name}']
 
 
 def exports(root):
@@ -32,8 +36,10 @@ def wanted(root):
 
 
 def prototypes(root):
-    """Those that the header has. A length that is only called so is that of the bytes before it."""
+    """Those that the header has. A length that is only called so is that of the bytes before it; a name for a count is that count."""
     text = COMMENT.sub(' ', (root / 'include/trelvox.h').read_text())
+    for name, count in DEFINED.findall(text):
+        text = text.replace(f'[{name}]', f'[{count}]')
     for result, name, parameters in PROTOTYPE.findall(text):
         words = [' '.join(word.split()) for word in parameters.split(',')]
         for i in range(1, len(words)):

@@ -1,8 +1,8 @@
 /*
- * Compares the library with the reference on random input, always the same for the seed below:
- * both checksums, forming with arguments in and out of limits, and reading of sound, damaged and
- * random packets. Numbers, parts and every byte lent must agree. At the first difference the case
- * is printed and the program ends with 1.
+ * Compares the library with the reference: both checksums, forming with arguments in and out of
+ * limits, and reading of sound, damaged and random packets, on random input that is always the same
+ * for the seed below; then reading of every packet of some shapes. Numbers, places, parts and every
+ * byte lent must agree. At the first difference the case is printed and the program ends with 1.
  */
 #include <stdio.h>
 #include <stdlib.h>
@@ -10,7 +10,6 @@
 
 #include "reference.h"
 #include "trelvox.h"
-#include "trial.h"
 
 enum { LONGEST = 600, ROUNDS_OF_LENGTHS = 60, FORMINGS = 120000, READINGS = 120000 };
 
@@ -110,7 +109,7 @@ static unsigned long compare_all_checksums(void)
 
 /* ---- Numbers returned, counted, so that a comparison that never met one of them is seen ------ */
 
-enum { NUMBERS = 16, FEWEST = 1000 };
+enum { NUMBERS = 20, FEWEST = 1000 };
 
 static unsigned long returned[NUMBERS];
 
@@ -255,12 +254,16 @@ enum kind {
     ADDRESS_BIT,
     ANY_BYTES,
     ANY_BEHIND_CODE,
-    KINDS
+    KINDS,
+    BY_LENGTH = KINDS,
+    BY_BYTE,
+    BY_HEAD
 };
 
 static const char *const kind_names[] = {
     "sound packet", "one bit turned",        "cut",       "lengthened",
     "count of zero", "other low address bit", "any bytes", "any bytes behind a known code",
+    "of each length", "one byte changed",     "any first and third byte",
 };
 
 struct packet {
@@ -356,11 +359,11 @@ static void choose_packet(struct packet *p, enum kind kind)
     }
 }
 
-static void print_parts(const char *who, uint8_t number, const uint64_t *parts)
+static void print_parts(const char *who, unsigned number, size_t place, const size_t *parts)
 {
-    printf("%s %u, parts", who, number);
-    for (int i = 0; i < PARTS; i++)
-        printf(" %lu", (unsigned long)parts[i]);
+    printf("%s %u at %zu, parts", who, number, place);
+    for (int i = 0; i < TRELVOX_PARTS; i++)
+        printf(" %zu", parts[i]);
     printf("\n");
 }
 
@@ -371,15 +374,15 @@ static void print_packet(const struct packet *p, enum kind kind)
 }
 
 /* Forming the parts of an accepted packet gives its bytes. */
-static void compare_formed_again(const struct packet *p, enum kind kind, const uint64_t *parts)
+static void compare_formed_again(const struct packet *p, enum kind kind, const size_t *parts)
 {
     static uint8_t again[TRELVOX_LONGEST_PACKET];
     static struct request q;
-    q.form = parts[PART_CODE] == 0x4B ? WRITE : parts[PART_CODE] == 0x87 ? READ : WRITE_READ;
-    q.address = (uint32_t)parts[PART_ADDRESS];
-    q.data_length = parts[PART_LENGTH];
-    q.count = (uint32_t)parts[PART_COUNT];
-    memcpy(q.data, p->bytes + parts[PART_START], q.data_length);
+    q.form = parts[TRELVOX_CODE] == 0x4B ? WRITE : parts[TRELVOX_CODE] == 0x87 ? READ : WRITE_READ;
+    q.address = (uint32_t)parts[TRELVOX_ADDRESS];
+    q.data_length = parts[TRELVOX_LENGTH];
+    q.count = (uint32_t)parts[TRELVOX_COUNT];
+    memcpy(q.data, p->bytes + parts[TRELVOX_START], q.data_length);
     uint8_t number = form_ours(&q, again, sizeof again);
     if (number == 0 && memcmp(again, p->bytes, p->length) == 0)
         return;
@@ -392,26 +395,26 @@ static void compare_formed_again(const struct packet *p, enum kind kind, const u
 static void compare_reading(const struct packet *p, enum kind kind)
 {
     static struct packet before;
-    uint64_t ours[PARTS], theirs[PARTS];
+    size_t ours[TRELVOX_PARTS], theirs[TRELVOX_PARTS];
     before = *p;
-    for (int i = 0; i < PARTS; i++)
-        ours[i] = theirs[i] = random_number();
+    for (int i = 0; i < TRELVOX_PARTS; i++)
+        ours[i] = theirs[i] = (size_t)random_number();
 
-    uint8_t our_number = trial_read(p->bytes, p->length, ours);
-    uint8_t their_number = reference_read(p->bytes, p->length, theirs);
-    count_number(their_number);
-    if (our_number != their_number || memcmp(ours, theirs, sizeof ours) != 0 ||
-        memcmp(before.bytes, p->bytes, LONGEST) != 0) {
+    uint32_t answer = trelvox_read(p->bytes, p->length, ours);
+    struct reference_answer told = reference_read(p->bytes, p->length, theirs);
+    count_number(told.number);
+    if (TRELVOX_NUMBER(answer) != told.number || TRELVOX_PLACE(answer) != told.place ||
+        memcmp(ours, theirs, sizeof ours) != 0 || memcmp(before.bytes, p->bytes, LONGEST) != 0) {
         print_packet(&before, kind);
-        print_parts("library", our_number, ours);
-        print_parts("reference", their_number, theirs);
+        print_parts("library", TRELVOX_NUMBER(answer), TRELVOX_PLACE(answer), ours);
+        print_parts("reference", told.number, told.place, theirs);
         end_with_difference();
     }
-    if (their_number == 0)
+    if (told.number == 0)
         compare_formed_again(p, kind, theirs);
 }
 
-static unsigned long compare_all_reading(void)
+static unsigned long compare_drawn(void)
 {
     static struct packet packet;
     for (int i = 0; i < READINGS; i++) {
@@ -420,6 +423,102 @@ static unsigned long compare_all_reading(void)
         compare_reading(&packet, kind);
     }
     return READINGS;
+}
+
+/* ---- Reading: every packet of some shapes ---------------------------------------------------- */
+
+enum { EACH_LENGTH = 300, SHORT = 12 };
+
+static const uint8_t first_bytes[] = {0x4B, 0x87, 0x2D, 0x4A};
+
+/* As it is, and then with its checksum right. */
+static unsigned long compare_both(struct packet *p, enum kind kind)
+{
+    compare_reading(p, kind);
+    mend_crc(p);
+    compare_reading(p, kind);
+    return 2;
+}
+
+/* So long, with this code and these two counts, and both low address bits. */
+static unsigned long compare_counts(size_t length, uint8_t code, uint8_t first, uint8_t last)
+{
+    static struct packet p;
+    unsigned long cases = 0;
+    for (unsigned bit = 0; bit < 2; bit++) {
+        p.length = length;
+        fill(p.bytes, length);
+        p.bytes[0] = code;
+        p.bytes[1] = (uint8_t)(0x40 + bit);
+        p.bytes[2] = first;
+        if (length > 5)
+            p.bytes[length - 3] = last;
+        cases += compare_both(&p, BY_LENGTH);
+    }
+    return cases;
+}
+
+/* Each length with each code, a first count of zero, one that fits 4Bh, one that fits 2Dh and any,
+ * and a last count of zero and any. */
+static unsigned long compare_lengths(void)
+{
+    unsigned long cases = 0;
+    for (size_t length = 0; length <= EACH_LENGTH; length++)
+        for (size_t code = 0; code < sizeof first_bytes; code++) {
+            const uint8_t firsts[] = {0, (uint8_t)(length - 5), (uint8_t)(length - 6), (uint8_t)random_number()};
+            for (size_t first = 0; first < sizeof firsts; first++) {
+                cases += compare_counts(length, first_bytes[code], firsts[first], 0);
+                cases += compare_counts(length, first_bytes[code], firsts[first], (uint8_t)between(1, 255));
+            }
+        }
+    return cases;
+}
+
+/* A short packet of each form with each byte changed into each other. */
+static unsigned long compare_bytes(void)
+{
+    static struct packet sound, p;
+    static struct request q = {WRITE, 0x20, 3, 2, {0x01, 0x00, 0xFF}};
+    unsigned long cases = 0;
+    for (int form = 0; form < FORMS; form++) {
+        q.form = (enum form)form;
+        sound.length = packet_length(&q);
+        form_theirs(&q, sound.bytes, sound.length);
+        for (size_t place = 0; place < sound.length; place++)
+            for (unsigned byte = 0; byte < 256; byte++) {
+                p = sound;
+                p.bytes[place] = (uint8_t)byte;
+                cases += compare_both(&p, BY_BYTE);
+            }
+    }
+    return cases;
+}
+
+/* Each first byte with each third, in packets of each short length. */
+static unsigned long compare_heads(void)
+{
+    static struct packet p;
+    unsigned long cases = 0;
+    for (size_t length = 0; length <= SHORT; length++)
+        for (unsigned head = 0; head < 65536; head++) {
+            p.length = length;
+            fill(p.bytes, length);
+            p.bytes[0] = (uint8_t)(head & 0xFF);
+            p.bytes[2] = (uint8_t)(head >> 8);
+            compare_reading(&p, BY_HEAD);
+            cases++;
+        }
+    return cases;
+}
+
+/* ---- All of it ------------------------------------------------------------------------------- */
+
+static void print_reading(const char *what, unsigned long cases)
+{
+    static const unsigned numbers[] = {0, 14, 16, 17, 18, 19};
+    printf("\nreading: %lu packets, %s", cases, what);
+    for (size_t i = 0; i < sizeof numbers / sizeof numbers[0]; i++)
+        print_number(numbers[i]);
 }
 
 int main(void)
@@ -433,11 +532,11 @@ int main(void)
     print_number(11);
     print_number(12);
 
-    cases += compare_all_reading();
-    printf("\nreading: %d packets, whole and damaged", READINGS);
-    print_number(0);
-    print_number(13);
-    print_number(14);
+    unsigned long drawn = compare_drawn();
+    print_reading("drawn, whole and damaged", drawn);
+    unsigned long shaped = compare_lengths() + compare_bytes() + compare_heads();
+    print_reading("each length to 300, each byte of a short one changed, each first and third byte", shaped);
+    cases += drawn + shaped;
 
     printf("\n%lu cases, library and reference agree in all\n", cases);
     return 0;

@@ -110,23 +110,24 @@ uint8_t reference_form_write_read(uint32_t address, const uint8_t *data, size_t 
     return 0;
 }
 
-/* ---- "Packets": reading ---------------------------------------------------------------------- */
+/* ---- "Packets" and R-1: reading -------------------------------------------------------------- */
 
-static int is_write(const uint8_t *packet, size_t length)
+static int is_unknown(uint8_t code)
 {
-    return length >= 3 && packet[0] == 0x4B && packet[1] % 2 == 0 && packet[2] != 0 &&
-           length == 3u + packet[2] + 2u;
+    return code != 0x4B && code != 0x87 && code != 0x2D;
 }
 
-static int is_read(const uint8_t *packet, size_t length)
+/* The bytes of a form one after the other: code, address and count, data, R of a 2Dh, CRC. */
+static size_t length_wanted(const uint8_t *packet, size_t length)
 {
-    return length == 3 + 2 && packet[0] == 0x87 && packet[1] % 2 == 1 && packet[2] != 0;
-}
-
-static int is_write_read(const uint8_t *packet, size_t length)
-{
-    return length >= 3 && packet[0] == 0x2D && packet[1] % 2 == 0 && packet[2] != 0 &&
-           length == 3u + packet[2] + 1u + 2u && packet[length - 3] != 0;
+    size_t wanted = 3;
+    if (length < 3)
+        return 5;
+    if (packet[0] != 0x87)
+        wanted += packet[2];
+    if (packet[0] == 0x2D)
+        wanted += 1;
+    return wanted + 2;
 }
 
 static int crc_is_right(const uint8_t *packet, size_t length)
@@ -135,24 +136,39 @@ static int crc_is_right(const uint8_t *packet, size_t length)
     return sent == 65535u - reference_crc16(packet, length - 2);
 }
 
-uint8_t reference_read(const uint8_t *packet, size_t length, uint64_t parts[5])
+/* What is wrong with a packet, in the order of R-1; number 0 where nothing is. R of a 2Dh stands last before the CRC. */
+static struct reference_answer wrong_with(const uint8_t *packet, size_t length)
 {
-    int write = is_write(packet, length);
-    int read = is_read(packet, length);
-    int write_read = is_write_read(packet, length);
-    if (!write && !read && !write_read)
-        return 13;
-    if (!crc_is_right(packet, length))
-        return 14;
+    struct reference_answer unknown = {16, 0}, misfit = {17, length_wanted(packet, length)};
+    struct reference_answer no_first = {18, 2}, no_last = {18, length - 3}, bit = {19, 1}, crc = {14, 0};
+    struct reference_answer nothing = {0, 0};
+    if (length > 0 && is_unknown(packet[0]))
+        return unknown;
+    if (length != misfit.place)
+        return misfit;
+    if (packet[2] == 0)
+        return no_first;
+    if (packet[0] == 0x2D && packet[length - 3] == 0)
+        return no_last;
+    if ((packet[1] & 1) != (packet[0] == 0x87 ? 1 : 0))
+        return bit;
+    return crc_is_right(packet, length) ? nothing : crc;
+}
+
+struct reference_answer reference_read(const uint8_t *packet, size_t length, size_t parts[5])
+{
+    struct reference_answer answer = wrong_with(packet, length);
+    if (answer.number != 0)
+        return answer;
     for (int i = 0; i < 5; i++)
         parts[i] = 0;
     parts[0] = packet[0];
     parts[1] = packet[1] / 2;
-    if (!read) {
+    if (packet[0] != 0x87) {
         parts[2] = 3;
         parts[3] = packet[2];
     }
-    if (!write)
-        parts[4] = packet[length - 3]; /* R stands last before the CRC */
-    return 0;
+    if (packet[0] != 0x4B)
+        parts[4] = packet[length - 3];
+    return answer;
 }

@@ -24,6 +24,7 @@ static ucontext_t outside, inside;
 
 static uint8_t data[LONGEST], buffer[LONGEST];
 static uint32_t address, count;
+static size_t parts[TRELVOX_PARTS];
 static size_t length;
 static volatile unsigned result;
 
@@ -50,6 +51,12 @@ static void form_read(void)
 static void form_write_read(void)
 {
     result = trelvox_form_write_read(address, data, length, count, buffer, sizeof buffer);
+}
+
+/* The bytes lent are a write of this length but for their CRC, where the limits are good; else a count is zero. */
+static void read(void)
+{
+    result = trelvox_read(data, length, parts);
 }
 
 /* Takes as much as no call may. */
@@ -87,6 +94,8 @@ static size_t most(void (*call)(void))
             for (int paint = 0x5A; paint <= 0xA5; paint += 0xA5 - 0x5A) {
                 address = bad ? 128 : 0x20;
                 count = bad ? 0 : 2;
+                data[0] = 0x4B;
+                data[2] = (uint8_t)(bad ? 0 : length - 5);
                 size_t taken = once(call, paint);
                 deepest = taken > deepest ? taken : deepest;
             }
@@ -107,6 +116,7 @@ int main(void)
     check_call("trelvox_form_write", form_write);
     check_call("trelvox_form_read", form_read);
     check_call("trelvox_form_write_read", form_write_read);
+    check_call("trelvox_read", read);
     check(most(too_deep) > TRELVOX_STACK, "a function that takes more is seen");
     return checks_done();
 }

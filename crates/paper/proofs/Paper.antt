@@ -11,7 +11,7 @@ use Rattle.line.specs.Line.{fitNumber}
 use Rattle.enumeration.specs.Order.{Before, Among, InOrder}
 use Rattle.reading.specs.declared.Reading.the-variants.{Refused}
 use Rattle.packet.specs.Request.{read, bodyOf, invertedOf, sealOf, packetOf}
-use Rattle.reading.specs.Reading.{readForm, formOf, isSealed, checked, readingOf}
+use Rattle.reading.specs.Reading.{isUnknown, wantedOf, zeroCount, partsIn, formOf, isSealed, checked, readingOf}
 use Rattle.paper.proofs.Wire.{p9-refused, p9-accepted, p9-read, p10, p11}
 use Rattle.paper.specs.Paper.{Paper, a, b, c}
 
@@ -85,12 +85,12 @@ p6 : packetOf (read 0x20 2) ≡ 0x87 ∷ 0x41 ∷ 0x02 ∷ 0xFE ∷ 0x47 ∷ []
 unfolding packetOf bodyOf sealOf invertedOf crc16Of crcFrom entered shifts shifted taps16 taps
 p6 = refl
 
-p7 : readingOf (0x87 ∷ 0x41 ∷ 0x02 ∷ 0xFE ∷ 0x46 ∷ []) ≡ Refused 14
-unfolding readingOf checked formOf readForm isSealed invertedOf crc16Of crcFrom entered shifts shifted taps16 taps
+p7 : readingOf (0x87 ∷ 0x41 ∷ 0x02 ∷ 0xFE ∷ 0x46 ∷ []) ≡ Refused 14 0
+unfolding readingOf checked formOf isUnknown wantedOf zeroCount partsIn isSealed invertedOf crc16Of crcFrom entered shifts shifted taps16 taps
 p7 = refl
 
-p8 : (x y : ℕ) → readingOf (0x87 ∷ 0x41 ∷ 0x00 ∷ x ∷ y ∷ []) ≡ Refused 13
-unfolding readingOf checked formOf readForm
+p8 : (x y : ℕ) → readingOf (0x87 ∷ 0x41 ∷ 0x00 ∷ x ∷ y ∷ []) ≡ Refused 18 2
+unfolding readingOf checked formOf isUnknown wantedOf zeroCount
 p8 x y = refl
 
 pub paper : Paper

@@ -1,4 +1,4 @@
--- The table of the P cases (document 01, "Tried on paper").
+-- The table of the P cases (document 01, "Tried on paper"; P8 by document 02, R-1).
 --   a, b, c            the IDs A, B and C
 --   withOne x          power-on with the one probe of the ID x
 --   ready x            it, after D2h F0h, a 1-Wire reset and its time
@@ -44,8 +44,9 @@ pub record Paper : Type 0 where
   pub p5 : InOrder (numberOf a ∷ numberOf b ∷ numberOf c ∷ []) (numberOf c ∷ numberOf b ∷ numberOf a ∷ [])
   -- a read, address 20h, 2 bytes
   pub p6 : packetOf (read 0x20 2) ≡ 0x87 ∷ 0x41 ∷ 0x02 ∷ 0xFE ∷ 0x47 ∷ []
-  pub p7 : readingOf (0x87 ∷ 0x41 ∷ 0x02 ∷ 0xFE ∷ 0x46 ∷ []) ≡ Refused 14
-  pub p8 : (x y : ℕ) → readingOf (0x87 ∷ 0x41 ∷ 0x00 ∷ x ∷ y ∷ []) ≡ Refused 13
+  pub p7 : readingOf (0x87 ∷ 0x41 ∷ 0x02 ∷ 0xFE ∷ 0x46 ∷ []) ≡ Refused 14 0
+  -- by document 02, R-1: a count of zero, at offset 2
+  pub p8 : (x y : ℕ) → readingOf (0x87 ∷ 0x41 ∷ 0x00 ∷ x ∷ y ∷ []) ≡ Refused 18 2
   -- on any bridge with nothing pending, a configuration byte refused, and one accepted and read back
   pub p9 : (s : Bridge) → busy s ≡ false → (writeNumber (0xD2 ∷ 0xD2 ∷ []) s ≡ 8) × (writeNumber (0xD2 ∷ 0xE1 ∷ []) s ≡ 0) × (readOf (afterWrite (0xD2 ∷ 0xE1 ∷ []) s) ≡ 0x01)
   -- one probe of any accepted ID

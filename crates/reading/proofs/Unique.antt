@@ -6,12 +6,16 @@ use Rattle.checksum.proofs.Unique.{OneAnswer, OneSeen}
 use Rattle.reading.proofs.read.Reads as read
 use Rattle.reading.proofs.data_of.Reads as data-of
 use Rattle.reading.proofs.Reading.number.Reads as number
+use Rattle.reading.proofs.Reading.place.Reads as place
 
 pub one-read : OneAnswer read.Post
 one-read κ a x y s t p q = p ∙ sym q
 
 pub one-number : OneAnswer number.Post
 one-number κ a x y s t p q = p ∙ sym q
+
+pub one-place : OneAnswer place.Post
+one-place κ a x y s t p q = p ∙ sym q
 
 -- The part of the packet that is given back: its place in memory and its bytes.
 pub one-data-of : OneSeen {C = (ℕ × ℕ) × List ℕ} data-of.Post (λ κ x. (x .ptr, x .now))

@@ -17,7 +17,7 @@ use Rattle.bridge.specs.Reached.Reached.{on, write}
 use Rattle.packet.specs.Request.{Request, read, bodyOf, invertedOf, sealOf, packetOf}
 use Rattle.reading.specs.declared.Reading.{Reading}
 use Rattle.reading.specs.declared.Reading.the-variants.{Refused}
-use Rattle.reading.specs.Reading.{readForm, formOf, isSealed, checked, readingOf, readingValues}
+use Rattle.reading.specs.Reading.{isUnknown, wantedOf, zeroCount, partsIn, formOf, isSealed, checked, readingOf, readingValues}
 use Rattle.demand.proofs.Reached.{bytes-one, bytes-two}
 use Rattle.refuted.specs.Versions.{clearsRst, zeroAfterOnes, tripletBy, uninverted}
 
@@ -73,9 +73,9 @@ triplet d s = refl
 
 -- ---- packets: a read, address 20h, 2 bytes
 
-pub reader-refuses : (f : List ℕ → ℕ) → ((p : List ℕ) → readingOf p ≡ Refused (f p)) → ⊥
-unfolding readingOf checked formOf readForm isSealed invertedOf crc16Of crcFrom entered shifts shifted taps16 taps
-reader-refuses f h =
+pub reader-refuses : (f g : List ℕ → ℕ) → ((p : List ℕ) → readingOf p ≡ Refused (f p) (g p)) → ⊥
+unfolding readingOf checked formOf isUnknown wantedOf zeroCount partsIn isSealed invertedOf crc16Of crcFrom entered shifts shifted taps16 taps
+reader-refuses f g h =
     let e : _≡_ {A = ℕ} 5 0 = ap (λ (r : Reading). length (readingValues r)) (h (0x87 ∷ 0x41 ∷ 0x02 ∷ 0xFE ∷ 0x47 ∷ [])) in
     omega arith
 

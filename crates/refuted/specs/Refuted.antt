@@ -27,7 +27,7 @@ pub record Refuted : Type 0 where
   -- "A search, step or packet reader that always refuses"
   pub searchRefuses : (f : Bridge → ℕ → List ℕ → ℕ) → Meets (alwaysRefuses f) → ⊥
   pub stepRefuses : (f : List ℕ → Bridge → ℕ) → ((x : List ℕ) → Bytes x → (s : Bridge) → Reached s → writeNumber x s ≡ suc (f x s)) → ⊥
-  pub readerRefuses : (f : List ℕ → ℕ) → ((p : List ℕ) → readingOf p ≡ Refused (f p)) → ⊥
+  pub readerRefuses : (f g : List ℕ → ℕ) → ((p : List ℕ) → readingOf p ≡ Refused (f p) (g p)) → ⊥
   -- "A fixed list or fixed status byte"
   pub listFixed : (l : ℕ → List ℕ) → Meets (callOf (fixedList l)) → ⊥
   pub statusFixed : (v : ℕ) → ((s : Bridge) → Reached s → s .registers .pointer ≡ Status → readOf s ≡ v) → ⊥

@@ -5,44 +5,23 @@
 --   again-formed, again-refused    what forming the parts again gives
 --   request-write, request-read, request-writeRead    the request by the code of the parts
 use mathlib.Core.Path.{_≡_, refl, sym, ap, ap₂, subst, _∙_}
-use mathlib.Core.Bool.{Bool, true, false, cond, _&&_, and-eq-true-iff}
+use mathlib.Core.Bool.{Bool, true, false, cond, _&&_}
 use mathlib.Core.List.{List, [], _∷_, _++_}
 use Prim.Native.Nat.{ℕ, suc, _+_, _-_, _*_, _/_, _%_, _<_, _≤_}
-use native.Mathlib.Numerals.{add-one}
 use native.Mathlib.Omega.{arith}
-use borrow.Author.Tests.{eq-eqb, ne-eqb, le-leb, eqb-true, leb-true}
+use borrow.Author.Tests.{eq-eqb, ne-eqb, le-leb}
 use lib.Dec.{eqb, leb}
-use lib.ListN.{length, getD, take, drop, length-drop, take-append-drop}
-use lib.Seq.{length-take-le, drop-cons, drop-length, take-suc}
+use lib.ListN.{length, getD, take, drop, length-drop}
+use lib.Seq.{length-take-le, take-suc}
 use Rattle.reading.specs.declared.Reading.{Reading}
 use Rattle.reading.specs.declared.Reading.the-variants.{Parts, Refused}
-use Rattle.packet.specs.Request.{Request, write, read, writeRead, bodyOf, invertedOf, sealOf, packetOf}
+use Rattle.packet.specs.Request.{Request, write, read, writeRead, bodyOf, sealOf, packetOf}
 use Rattle.forming.specs.Forming.{goodAddress, goodCount, inLimits, formNumber, formed}
-use Rattle.reading.specs.Reading.{noForm, codeOf, addressByte, countByte, writeForm, readForm, writeReadForm, formOf, isSealed, checked, readingOf, requestIn}
+use Rattle.reading.specs.Reading.{codeOf, addressByte, countByte, behindData, formOf, isSealed, checked, readingOf, readingPlace, requestIn}
+use Rattle.reading.proofs.Seal.{sealed-split}
+use Rattle.reading.proofs.Taken.{Head, by-form}
 use Rattle.forming.specs.Buffer.{over}
-use Rattle.roundtrip.specs.RoundTrip.{againFor, againNumber, againIn, formedAgain}
-
--- ---- the checksum
-
--- a packet that is sealed is its front with the checksum of that behind
-sealed-split : (p : List ℕ) (n : ℕ) → length p ≡ n + 2 → isSealed p ≡ true → p ≡ take n p ++ sealOf (take n p)
-unfolding isSealed sealOf
-sealed-split p n h s =
-    let low : ℕ = invertedOf (take n p) % 256 in
-    let high : ℕ = invertedOf (take n p) / 256 in
-    let at : length p - 2 ≡ n = omega arith in
-    let t : (eqb (getD p n 0) low && eqb (getD p (n + 1) 0) high) ≡ true
-    = subst (λ (k : ℕ). (eqb (getD p k 0) (invertedOf (take k p) % 256) && eqb (getD p (k + 1) 0) (invertedOf (take k p) / 256)) ≡ true) at s in
-    let first : getD p n 0 ≡ low = eqb-true (getD p n 0) low (and-eq-true-iff (eqb (getD p n 0) low) (eqb (getD p (n + 1) 0) high) .0 t .0) in
-    let second : getD p (n + 1) 0 ≡ high = eqb-true (getD p (n + 1) 0) high (and-eq-true-iff (eqb (getD p n 0) low) (eqb (getD p (n + 1) 0) high) .0 t .1) in
-    let next : getD p (suc n) 0 ≡ high = ap (λ (k : ℕ). getD p k 0) (sym (add-one n)) ∙ second in
-    let tail : drop n p ≡ getD p n 0 ∷ getD p (suc n) 0 ∷ drop (suc (suc n)) p
-    = drop-cons p n 0 (omega arith) ∙ ap (λ (l : List ℕ). getD p n 0 ∷ l) (drop-cons p (suc n) 0 (omega arith)) in
-    let end : suc (suc n) ≡ length p = omega arith in
-    let none : drop (suc (suc n)) p ≡ [] = ap (λ (k : ℕ). drop k p) end ∙ drop-length p in
-    sym (take-append-drop n p)
-    ∙ ap (λ (l : List ℕ). take n p ++ l)
-    (tail ∙ ap₂ (λ (x : ℕ) (l : List ℕ). x ∷ l) first (ap₂ (λ (x : ℕ) (l : List ℕ). x ∷ l) next none))
+use Rattle.roundtrip.specs.RoundTrip.{againFor, againNumber, againPlace, againIn, formedAgain}
 
 -- ---- the body
 
@@ -55,24 +34,6 @@ front (x ∷ y ∷ z ∷ zs) n h = ap (λ (k : ℕ). take k (x ∷ y ∷ z ∷ z
   where
     add-three : (k : ℕ) → k + 3 ≡ suc (suc (suc k))
     add-three k = omega arith
-
--- the tests of a form that hold together, one by one
-record Head (p : List ℕ) (low wanted : ℕ) : Type 0 where
-  bit : addressByte p % 2 ≡ low
-  some : 1 ≤ countByte p
-  long : length p ≡ wanted
-
-head-of : (p : List ℕ) (low wanted : ℕ) → (eqb (addressByte p % 2) low && leb 1 (countByte p) && eqb (length p) wanted) ≡ true → Head p low wanted
-head-of p low wanted t =
-    let a : Bool = eqb (addressByte p % 2) low in
-    let b : Bool = leb 1 (countByte p) in
-    let c : Bool = eqb (length p) wanted in
-    let l = and-eq-true-iff (a && b) c .0 t .0 in
-    record {
-      bit = eqb-true (addressByte p % 2) low (and-eq-true-iff a b .0 l .0);
-      some = leb-true 1 (countByte p) (and-eq-true-iff a b .0 l .1);
-      long = eqb-true (length p) wanted (and-eq-true-iff (a && b) c .0 t .1);
-    }
 
 body-write : (p : List ℕ) → codeOf p ≡ 0x4B → Head p 0 (countByte p + 5) → take (countByte p + 3) p ≡ bodyOf (write (addressByte p / 2) (take (countByte p) (drop 3 p)))
 unfolding bodyOf
@@ -93,7 +54,7 @@ body-read p c h =
     front p 0 (omega arith)
     ∙ ap₂ (λ (x : ℕ) (s : List ℕ). x ∷ s) c (ap (λ (x : ℕ). x ∷ countByte p ∷ []) odd)
 
-body-writeRead : (p : List ℕ) → codeOf p ≡ 0x2D → Head p 0 (countByte p + 6) → take (countByte p + 4) p ≡ bodyOf (writeRead (addressByte p / 2) (take (countByte p) (drop 3 p)) (getD p (countByte p + 3) 0))
+body-writeRead : (p : List ℕ) → codeOf p ≡ 0x2D → Head p 0 (countByte p + 6) → take (countByte p + 4) p ≡ bodyOf (writeRead (addressByte p / 2) (take (countByte p) (drop 3 p)) (behindData p))
 unfolding bodyOf
 body-writeRead p c h =
     let l : ℕ = countByte p in
@@ -115,7 +76,7 @@ Bytes p = (k : ℕ) → getD p k 0 < 256
 abbrev pub Again : Reading → List ℕ → Type 0
 Again (Parts c a b l r) p =
     (inLimits (requestIn (Parts c a b l r) p) ≡ true) × (packetOf (requestIn (Parts c a b l r) p) ≡ p)
-Again (Refused n) p = Unit {0}
+Again (Refused n k) p = Unit {0}
 
 -- a body and its checksum are the packet
 rejoined : (p : List ℕ) (q : Request) (n : ℕ) → length p ≡ n + 2 → isSealed p ≡ true → take n p ≡ bodyOf q → packetOf q ≡ p
@@ -129,75 +90,47 @@ count-limit : (n : ℕ) → 1 ≤ n → n < 256 → goodCount n ≡ true
 count-limit n h k = ap₂ _&&_ (le-leb 1 n h) (le-leb n 255 (omega arith))
 
 module _ (p : List ℕ) (bytes : Bytes p) (s : isSealed p ≡ true) where
-  again-when : (t : Bool) (r : Reading) → (t ≡ true → Again r p) → Again (cond t r noForm) p
-  again-when true r h = h refl
-  again-when false r h = tt
-
-  again-pick : (t : Bool) (r q : Reading) → (t ≡ true → Again r p) → Again q p → Again (cond t r q) p
-  again-pick true r q h k = h refl
-  again-pick false r q h k = k
-
   data-size : (n : ℕ) → n + 5 ≤ length p → length (take n (drop 3 p)) ≡ n
   data-size n h = length-take-le n (drop 3 p) (simp length-drop (omega arith))
 
-  again-write : codeOf p ≡ 0x4B → Again (writeForm p) p
-  unfolding writeForm requestIn inLimits
-  again-write c =
-      again-when (eqb (addressByte p % 2) 0 && leb 1 (countByte p) && eqb (length p) (countByte p + 5))
-      (Parts 0x4B (addressByte p / 2) 3 (countByte p) 0)
-      (λ t.
-      let h = head-of p 0 (countByte p + 5) t in
+  again-write : codeOf p ≡ 0x4B → Head p 0 (countByte p + 5) → Again (Parts 0x4B (addressByte p / 2) 3 (countByte p) 0) p
+  unfolding requestIn inLimits
+  again-write c h =
       let w = h .long in (
         ap₂ _&&_ (address-limit (addressByte p) (bytes 1))
             (ap goodCount (data-size (countByte p) (omega arith)) ∙ count-limit (countByte p) (h .some) (bytes 2)),
         rejoined p (write (addressByte p / 2) (take (countByte p) (drop 3 p))) (countByte p + 3) (omega arith) s
             (body-write p c h),
-      ))
+      )
 
-  again-read : codeOf p ≡ 0x87 → Again (readForm p) p
-  unfolding readForm requestIn inLimits
-  again-read c =
-      again-when (eqb (addressByte p % 2) 1 && leb 1 (countByte p) && eqb (length p) 5)
-      (Parts 0x87 (addressByte p / 2) 0 0 (countByte p))
-      (λ t.
-      let h = head-of p 1 5 t in
+  again-read : codeOf p ≡ 0x87 → Head p 1 5 → Again (Parts 0x87 (addressByte p / 2) 0 0 (countByte p)) p
+  unfolding requestIn inLimits
+  again-read c h =
       let w = h .long in (
         ap₂ _&&_ (address-limit (addressByte p) (bytes 1)) (count-limit (countByte p) (h .some) (bytes 2)),
         rejoined p (read (addressByte p / 2) (countByte p)) 3 (omega arith) s (body-read p c h),
-      ))
+      )
 
-  again-writeRead : codeOf p ≡ 0x2D → Again (writeReadForm p) p
-  unfolding writeReadForm requestIn inLimits
-  again-writeRead c =
-      let r : ℕ = getD p (countByte p + 3) 0 in
-      let u : Bool = eqb (addressByte p % 2) 0 && leb 1 (countByte p) && eqb (length p) (countByte p + 6) in
-      again-when (u && leb 1 r) (Parts 0x2D (addressByte p / 2) 3 (countByte p) r)
-      (λ t.
-      let h = head-of p 0 (countByte p + 6) (and-eq-true-iff u (leb 1 r) .0 t .0) in
+  again-writeRead : codeOf p ≡ 0x2D → Head p 0 (countByte p + 6) → 1 ≤ behindData p → Again (Parts 0x2D (addressByte p / 2) 3 (countByte p) (behindData p)) p
+  unfolding requestIn inLimits
+  again-writeRead c h r =
       let w = h .long in (
         ap₂ _&&_
             (ap₂ _&&_ (address-limit (addressByte p) (bytes 1))
             (ap goodCount (data-size (countByte p) (omega arith)) ∙ count-limit (countByte p) (h .some) (bytes 2)))
-            (count-limit r (leb-true 1 r (and-eq-true-iff u (leb 1 r) .0 t .1)) (bytes (countByte p + 3))),
-        rejoined p (writeRead (addressByte p / 2) (take (countByte p) (drop 3 p)) r) (countByte p + 4) (omega arith) s
+            (count-limit (behindData p) r (bytes (countByte p + 3))),
+        rejoined p (writeRead (addressByte p / 2) (take (countByte p) (drop 3 p)) (behindData p)) (countByte p + 4) (omega arith) s
             (body-writeRead p c h),
-      ))
+      )
 
   again-form : Again (formOf p) p
-  unfolding formOf
-  again-form =
-      again-pick (eqb (codeOf p) 0x4B) (writeForm p)
-      (cond (eqb (codeOf p) 0x87) (readForm p) (cond (eqb (codeOf p) 0x2D) (writeReadForm p) noForm))
-      (λ t. again-write (eqb-true (codeOf p) 0x4B t))
-      (again-pick (eqb (codeOf p) 0x87) (readForm p) (cond (eqb (codeOf p) 0x2D) (writeReadForm p) noForm)
-      (λ t. again-read (eqb-true (codeOf p) 0x87 t))
-      (again-when (eqb (codeOf p) 0x2D) (writeReadForm p) (λ t. again-writeRead (eqb-true (codeOf p) 0x2D t))))
+  again-form = by-form p (λ (r : Reading). Again r p) (λ n k. tt) again-write again-read again-writeRead
 
 again-checked : (t : Bool) (r : Reading) (p : List ℕ) → (t ≡ true → Again r p) → Again (checked t r) p
 unfolding checked
 again-checked true (Parts c a b l r) p h = h refl
 again-checked false (Parts c a b l r) p h = tt
-again-checked t (Refused n) p h = tt
+again-checked t (Refused n k) p h = tt
 
 pub again : (p : List ℕ) → Bytes p → Again (readingOf p) p
 unfolding readingOf
@@ -205,8 +138,8 @@ again p bytes = again-checked (isSealed p) (formOf p) p (again-form p bytes)
 
 -- ---- forming the parts again
 
-pub again-formed : (p d : List ℕ) (q : Request) {c a b l r : ℕ} → Bytes p → readingOf p ≡ Parts c a b l r → requestIn (Parts c a b l r) p ≡ q → (formNumber q d ≡ againNumber p d) × (formed q d ≡ formedAgain p d)
-unfolding formNumber formed againNumber againFor formedAgain againIn
+pub again-formed : (p d : List ℕ) (q : Request) {c a b l r : ℕ} → Bytes p → readingOf p ≡ Parts c a b l r → requestIn (Parts c a b l r) p ≡ q → (formNumber q d ≡ againNumber p d) × (0 ≡ againPlace p) × (formed q d ≡ formedAgain p d)
+unfolding formNumber formed againNumber againFor againPlace formedAgain againIn
 again-formed p d q {c} {a} {b} {l} {r} bytes e f =
     let g : Again (Parts c a b l r) p = subst (λ (x : Reading). Again x p) e (again p bytes) in
     let good : inLimits q ≡ true = sym (ap inLimits f) ∙ g .0 in
@@ -214,6 +147,7 @@ again-formed p d q {c} {a} {b} {l} {r} bytes e f =
     let number : formNumber q d ≡ cond (leb (length p) (length d)) 0 12
     = ap₂ (λ (t : Bool) (x : List ℕ). cond t (cond (leb (length x) (length d)) 0 12) 11) good whole in (
       number ∙ sym (ap (λ (x : Reading). againFor x (length p) (length d)) e),
+      sym (ap readingPlace e),
       ap₂ (λ (k : ℕ) (x : List ℕ). cond (eqb k 0) (over x d) d) number whole ∙ room (leb (length p) (length d))
           ∙ sym (ap (λ (x : Reading). againIn x p d) e),
     )
@@ -240,7 +174,10 @@ module _ (p : List ℕ) (c a b l r : ℕ) where
   unfolding requestIn
   request-writeRead s e n m = simp (ne-eqb c 0x4B n, ne-eqb c 0x87 m) (ap (λ (x : List ℕ). writeRead a x r) (sym e))
 
-pub again-refused : (p d : List ℕ) {n : ℕ} → readingOf p ≡ Refused n → (n ≡ againNumber p d) × (d ≡ formedAgain p d)
-unfolding againNumber againFor formedAgain againIn
-again-refused p d e =
-    (sym (ap (λ (x : Reading). againFor x (length p) (length d)) e), sym (ap (λ (x : Reading). againIn x p d) e))
+pub again-refused : (p d : List ℕ) {n k : ℕ} → readingOf p ≡ Refused n k → (n ≡ againNumber p d) × (k ≡ againPlace p) × (d ≡ formedAgain p d)
+unfolding againNumber againFor againPlace formedAgain againIn
+again-refused p d e = (
+  sym (ap (λ (x : Reading). againFor x (length p) (length d)) e),
+  sym (ap readingPlace e),
+  sym (ap (λ (x : Reading). againIn x p d) e),
+)

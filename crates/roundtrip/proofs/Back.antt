@@ -1,7 +1,6 @@
 -- Reading a packet just formed gives the request that made it.
 --   longest         the packet of a request within its limits has at most 261 bytes
 --   longest-is      and a write-read of 255 bytes has so many
---   sealed-true     a body with its checksum behind it is sealed
 --   back            the reader's answer for the packet of a request within its limits
 --   numbered-back, values-back    that answer in document 01's number and values
 --   request-back    the request that this answer stands for in that packet is the very request, its data included
@@ -9,7 +8,7 @@
 --   back-refused    a request that is refused
 --   fits-formed     the packet fits the buffer that it was formed in
 use mathlib.Core.Path.{_≡_, refl, sym, ap, ap₂, _∙_}
-use mathlib.Core.Bool.{Bool, true, cond, _&&_, and-eq-true-iff}
+use mathlib.Core.Bool.{Bool, true, false, cond, _&&_, and-eq-true-iff}
 use mathlib.Core.List.{List, [], _∷_, _++_, append-assoc}
 use Prim.Native.Nat.{ℕ, _+_, _-_, _*_, _/_, _%_, _≤_}
 use native.Mathlib.Omega.{arith}
@@ -18,10 +17,12 @@ use lib.Dec.{eqb}
 use lib.ListN.{length, getD, take, length-append}
 use lib.Seq.{take-append-seam, getD-append-seam, getD-append-add}
 use Rattle.reading.specs.declared.Reading.{Reading}
-use Rattle.reading.specs.declared.Reading.the-variants.{Refused}
+use Rattle.reading.specs.declared.Reading.the-variants.{Parts, Refused}
 use Rattle.packet.specs.Request.{Request, write, read, writeRead, bodyOf, invertedOf, sealOf, packetOf}
 use Rattle.forming.specs.Forming.{goodAddress, goodCount, inLimits, formNumber, formed}
-use Rattle.reading.specs.Reading.{writeForm, readForm, writeReadForm, formOf, isSealed, checked, readingOf, readingNumber, readingValues, partsOf, requestIn}
+use Rattle.reading.specs.Reading.{zeroCount, partsIn, formOf, checked, readingOf, readingNumber, readingValues, partsOf, requestIn}
+use Rattle.reading.proofs.Seal.{sealed-true}
+use Rattle.reading.proofs.Taken.{form-right}
 use Rattle.forming.specs.Buffer.{over}
 use Rattle.forming.proofs.Limits.{count-of, good-of, room-of}
 use Rattle.forming.proofs.Buffer.{take-over}
@@ -43,44 +44,27 @@ longest (writeRead a s r) g =
 pub longest-is : (a : ℕ) (s : List ℕ) (r : ℕ) → length s ≡ 255 → length (packetOf (writeRead a s r)) ≡ 261
 longest-is a s r e = omega (arith, length-writeRead a s r)
 
--- ---- the checksum
-
-pub sealed-true : (s : List ℕ) → isSealed (s ++ sealOf s) ≡ true
-unfolding isSealed sealOf
-sealed-true s =
-    let p : List ℕ = s ++ sealOf s in
-    let low : ℕ = invertedOf s % 256 in
-    let high : ℕ = invertedOf s / 256 in
-    let at : length p - 2 ≡ length s = omega (arith, length-append s (sealOf s)) in
-    let front : take (length s) p ≡ s = take-append-seam s (sealOf s) in
-    let first : getD p (length s) 0 ≡ low = getD-append-seam s low (high ∷ []) 0 in
-    let second : getD p (length s + 1) 0 ≡ high = getD-append-add s (sealOf s) 1 0 in
-    simp (at, front, first, second, eq-eqb low low refl, eq-eqb high high refl)
-
 -- ---- the form
 
--- an even address byte
-even : (a : ℕ) → eqb (a * 2 % 2) 0 ≡ true
-even a = eq-eqb (a * 2 % 2) 0 (omega arith)
-
-odd : (a : ℕ) → eqb ((a * 2 + 1) % 2) 1 ≡ true
-odd a = eq-eqb ((a * 2 + 1) % 2) 1 (omega arith)
-
-half : (a : ℕ) → a * 2 / 2 ≡ a
-half a = omega arith
-
-half-odd : (a : ℕ) → (a * 2 + 1) / 2 ≡ a
-half-odd a = omega arith
+-- a count within its limits is not zero
+some : (n : ℕ) → goodCount n ≡ true → eqb n 0 ≡ false
+some n g = ne-eqb n 0 (λ e. omega (arith, count-of n g .0))
 
 form-write : (a : ℕ) (s : List ℕ) → goodCount (length s) ≡ true → formOf (packetOf (write a s)) ≡ partsOf (write a s)
-unfolding formOf writeForm partsOf packetOf bodyOf
+unfolding zeroCount partsIn partsOf packetOf bodyOf
 form-write a s g =
-    simp
-    (even a, half a, le-leb 1 (length s) (count-of (length s) g .0), eq-eqb (length (packetOf (write a s))) (length s + 5) (length-write a s))
+    let half : a * 2 / 2 ≡ a = omega arith in
+    let n = length-write a s in
+    form-right (packetOf (write a s)) refl n (omega arith) (simp (some (length s) g)) (omega arith)
+    ∙ ap (λ (x : ℕ). Parts 0x4B x 3 (length s) 0) half
 
 form-read : (a r : ℕ) → goodCount r ≡ true → formOf (packetOf (read a r)) ≡ partsOf (read a r)
-unfolding formOf readForm partsOf packetOf bodyOf sealOf
-form-read a r g = simp (odd a, half-odd a, le-leb 1 r (count-of r g .0))
+unfolding zeroCount partsIn partsOf packetOf bodyOf
+form-read a r g =
+    let half : (a * 2 + 1) / 2 ≡ a = omega arith in
+    let n = length-read a r in
+    form-right (packetOf (read a r)) refl n (omega arith) (simp (some r g)) (omega arith)
+    ∙ ap (λ (x : ℕ). Parts 0x87 x 0 0 r) half
 
 -- R stands behind the data
 last-count : (a : ℕ) (s : List ℕ) (r : ℕ) → getD (packetOf (writeRead a s r)) (length s + 3) 0 ≡ r
@@ -93,10 +77,12 @@ last-count a s r =
     ∙ getD-append-seam h r t 0
 
 form-writeRead : (a : ℕ) (s : List ℕ) (r : ℕ) → goodCount (length s) ≡ true → goodCount r ≡ true → formOf (packetOf (writeRead a s r)) ≡ partsOf (writeRead a s r)
-unfolding formOf writeReadForm partsOf packetOf bodyOf
+unfolding zeroCount partsIn partsOf packetOf bodyOf
 form-writeRead a s r g f =
-    simp
-    (even a, half a, le-leb 1 (length s) (count-of (length s) g .0), eq-eqb (length (packetOf (writeRead a s r))) (length s + 6) (length-writeRead a s r), last-count a s r, le-leb 1 r (count-of r f .0))
+    let half : a * 2 / 2 ≡ a = omega arith in
+    let n = length-writeRead a s r in
+    form-right (packetOf (writeRead a s r)) refl n (omega arith) (simp (some (length s) g, last-count a s r, some r f)) (omega arith)
+    ∙ ap₂ (λ (x y : ℕ). Parts 0x2D x 3 (length s) y) half (last-count a s r)
 
 form-of : (q : Request) → inLimits q ≡ true → formOf (packetOf q) ≡ partsOf q
 unfolding inLimits
@@ -162,10 +148,10 @@ back-formed q d n h z =
     ∙ ap (λ (k : ℕ). readingOf (take k (over (packetOf q) d))) (sym h)
     ∙ ap readingOf (take-over (packetOf q) d)
     ∙ back q (good-of (inLimits q) (length (packetOf q)) (length d) z)
-    ∙ sym (ap (λ (t : Bool). cond t (partsOf q) (Refused (formNumber q d))) (eq-eqb (formNumber q d) 0 z))
+    ∙ sym (ap (λ (t : Bool). cond t (partsOf q) (Refused (formNumber q d) 0)) (eq-eqb (formNumber q d) 0 z))
 
-pub back-refused : (q : Request) (d : List ℕ) (n : ℕ) → n ≡ formNumber q d → (n ≡ 0 → ⊥) → Refused n ≡ readBack q d
+pub back-refused : (q : Request) (d : List ℕ) (n : ℕ) → n ≡ formNumber q d → (n ≡ 0 → ⊥) → Refused n 0 ≡ readBack q d
 unfolding readBack
 back-refused q d n e h =
-    ap (λ (k : ℕ). Refused k) e
-    ∙ sym (ap (λ (t : Bool). cond t (partsOf q) (Refused (formNumber q d))) (ne-eqb (formNumber q d) 0 (λ z. h (e ∙ z))))
+    ap (λ (k : ℕ). Refused k 0) e
+    ∙ sym (ap (λ (t : Bool). cond t (partsOf q) (Refused (formNumber q d) 0)) (ne-eqb (formNumber q d) 0 (λ z. h (e ∙ z))))

@@ -29,12 +29,16 @@ returns-2 c =
     read-parts (f .before .before .args .packet .now) (f .form-of .result) (f .form-of .ensures) (e .enum-told .given .1)
     (sym (c .before .is-sealed .ensures) ∙ c .if1 .taken)
 
+refused-requires : tie.Need-refused-requires
+refused-requires c κs = search needs
+
 returns-3 : tie.Need-returns-3
 returns-3 c =
-    let e = c .before .before in
+    let e = c .before .before .before in
     let f = e .before .before in
-    read-wrong (f .before .before .args .packet .now) (f .form-of .result) (f .form-of .ensures) (e .enum-told .given .1)
-    (sym (c .before .is-sealed .ensures) ∙ c .if1 .left)
+    c .refused .ensures
+    ∙ read-wrong (f .before .before .args .packet .now) (f .form-of .result) (f .form-of .ensures) (e .enum-told .given .1)
+    (sym (c .before .before .is-sealed .ensures) ∙ c .before .if1 .left)
 
 pub read-spec : {M : Type 1} → statement M
 read-spec =
@@ -45,5 +49,6 @@ read-spec =
     enum-told-2
     returns
     is-sealed-requires
+    refused-requires
     returns-2
     returns-3)

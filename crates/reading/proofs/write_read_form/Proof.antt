@@ -1,6 +1,9 @@
--- `reading::write_read_form` meets its contract: at each `return` the tests that led there say which case of `writeReadForm` holds.
-use borrow.Author.Tests.{eq-eqb, ne-eqb, le-leb, lt-leb}
-use Rattle.reading.specs.Reading.{writeReadForm}
+-- `reading::write_read_form` meets its contract: at each `return` the tests that led there say which case of `formOf` holds.
+use Prim.Native.Nat.{_+_}
+use native.Mathlib.Omega.{arith}
+use borrow.Author.Tests.{eq-eqb, ne-eqb, le-leb}
+use lib.ListN.{length}
+use Rattle.reading.specs.Reading.{isUnknown, wantedOf, zeroCount, partsIn, formOf}
 use borrow.Author.Needs.{needs}
 use Rattle.reading.proofs.write_read_form.Statement.{statement}
 use Rattle.reading.proofs.write_read_form.Tie as tie
@@ -14,34 +17,87 @@ at-requires-2 c κs = search needs
 cast-len : tie.Need-cast-len
 cast-len c = search needs
 
-add-at : tie.Need-add-at
-add-at c = search needs
+add-wanted : tie.Need-add-wanted
+add-wanted c = search needs
 
-at-requires-3 : tie.Need-at-requires-3
-at-requires-3 c κs = search needs
+cast-refused : tie.Need-cast-refused
+cast-refused c = search needs
 
-add-if3 : tie.Need-add-if3
-add-if3 c = search needs
+refused-requires : tie.Need-refused-requires
+refused-requires c κs = search needs
 
 returns : tie.Need-returns
-unfolding writeReadForm
-returns c = simp (← c .before .before .before .before .before .before .at .ensures, ← c .before .before .before .before .before .at2 .ensures, ← c .before .before .before .before .at3 .ensures, eq-eqb _ _ (c .before .before .before .if1 .taken), le-leb _ _ (c .before .before .if2 .taken), eq-eqb _ _ (c .before .if3 .taken), le-leb _ _ (c .if4 .taken))
+unfolding formOf isUnknown wantedOf zeroCount partsIn
+returns c =
+    let a = c .before .before in
+    let q = a .before in
+    let s = q .before .before in
+    let h = s .pre .0 in
+    let one = le-leb 1 (length (s .args .packet .now)) (omega arith) in
+    let three = le-leb 3 (length (s .args .packet .now)) h in
+    simp (s .pre .1, one, three, ← q .at .ensures, ← a .at2 .ensures, ne-eqb _ _ (c .before .if1 .taken)) (c .refused .ensures)
+
+refused-requires-2 : tie.Need-refused-requires-2
+refused-requires-2 c κs = search needs
 
 returns-2 : tie.Need-returns-2
-unfolding writeReadForm
-returns-2 c = simp (← c .before .before .before .before .before .before .at .ensures, ← c .before .before .before .before .before .at2 .ensures, ← c .before .before .before .before .at3 .ensures, eq-eqb _ _ (c .before .before .before .if1 .taken), le-leb _ _ (c .before .before .if2 .taken), eq-eqb _ _ (c .before .if3 .taken), lt-leb _ _ (c .if4 .left))
+unfolding formOf isUnknown wantedOf zeroCount partsIn
+returns-2 c =
+    let a = c .before .before .before in
+    let q = a .before in
+    let s = q .before .before in
+    let h = s .pre .0 in
+    let one = le-leb 1 (length (s .args .packet .now)) (omega arith) in
+    let three = le-leb 3 (length (s .args .packet .now)) h in
+    simp (s .pre .1, one, three, ← q .at .ensures, ← a .at2 .ensures, eq-eqb _ _ (c .before .before .if1 .left), eq-eqb _ _ (c .before .if2 .taken)) (c .refused2 .ensures)
+
+add-behind : tie.Need-add-behind
+add-behind c = search needs
+
+shared-slice-read-count : tie.Need-shared-slice-read-count
+shared-slice-read-count c = search needs
+
+cast-refused-2 : tie.Need-cast-refused-2
+cast-refused-2 c = search needs
+
+refused-requires-3 : tie.Need-refused-requires-3
+refused-requires-3 c κs = search needs
 
 returns-3 : tie.Need-returns-3
-unfolding writeReadForm
-returns-3 c = simp (← c .before .before .before .before .before .at .ensures, ← c .before .before .before .before .at2 .ensures, eq-eqb _ _ (c .before .before .if1 .taken), le-leb _ _ (c .before .if2 .taken), ne-eqb _ _ (c .if3 .left))
+unfolding formOf isUnknown wantedOf zeroCount partsIn
+returns-3 c =
+    let a = c .before .before .before .before .before in
+    let q = a .before in
+    let s = q .before .before in
+    let h = s .pre .0 in
+    let one = le-leb 1 (length (s .args .packet .now)) (omega arith) in
+    let three = le-leb 3 (length (s .args .packet .now)) h in
+    simp (s .pre .1, one, three, ← q .at .ensures, ← a .at2 .ensures, eq-eqb _ _ (c .before .before .before .before .if1 .left), ne-eqb _ _ (c .before .before .before .if2 .left), eq-eqb _ _ (c .before .if3 .taken), ne-eqb (a .at2 .result + 3) 0 (λ e. omega arith)) (c .refused3 .ensures)
+
+refused-requires-4 : tie.Need-refused-requires-4
+refused-requires-4 c κs = search needs
 
 returns-4 : tie.Need-returns-4
-unfolding writeReadForm
-returns-4 c = simp (← c .before .before .before .before .at .ensures, ← c .before .before .before .at2 .ensures, eq-eqb _ _ (c .before .if1 .taken), lt-leb _ _ (c .if2 .left))
+unfolding formOf isUnknown wantedOf zeroCount partsIn
+returns-4 c =
+    let a = c .before .before .before .before .before .before in
+    let q = a .before in
+    let s = q .before .before in
+    let h = s .pre .0 in
+    let one = le-leb 1 (length (s .args .packet .now)) (omega arith) in
+    let three = le-leb 3 (length (s .args .packet .now)) h in
+    simp (s .pre .1, one, three, ← q .at .ensures, ← a .at2 .ensures, eq-eqb _ _ (c .before .before .before .before .before .if1 .left), ne-eqb _ _ (c .before .before .before .before .if2 .left), ne-eqb _ _ (c .before .before .if3 .left), ne-eqb _ _ (c .before .if4 .taken)) (c .refused4 .ensures)
 
 returns-5 : tie.Need-returns-5
-unfolding writeReadForm
-returns-5 c = simp (← c .before .before .before .at .ensures, ← c .before .before .at2 .ensures, ne-eqb _ _ (c .if1 .left))
+unfolding formOf isUnknown wantedOf zeroCount partsIn
+returns-5 c =
+    let a = c .before .before .before .before .before in
+    let q = a .before in
+    let s = q .before .before in
+    let h = s .pre .0 in
+    let one = le-leb 1 (length (s .args .packet .now)) (omega arith) in
+    let three = le-leb 3 (length (s .args .packet .now)) h in
+    simp (s .pre .1, one, three, ← q .at .ensures, ← a .at2 .ensures, eq-eqb _ _ (c .before .before .before .before .if1 .left), ne-eqb _ _ (c .before .before .before .if2 .left), ne-eqb _ _ (c .before .if3 .left), eq-eqb _ _ (c .if4 .left))
 
 pub write-read-form-spec : {M : Type 1} → statement M
 write-read-form-spec =
@@ -50,11 +106,17 @@ write-read-form-spec =
     at-requires
     at-requires-2
     cast-len
-    add-at
-    at-requires-3
-    add-if3
+    add-wanted
+    cast-refused
+    refused-requires
     returns
+    refused-requires-2
     returns-2
+    add-behind
+    shared-slice-read-count
+    cast-refused-2
+    refused-requires-3
     returns-3
+    refused-requires-4
     returns-4
     returns-5)
