@@ -2,21 +2,20 @@
 --   refusals    the statement, of every packet
 use mathlib.Core.Path.{_≡_, refl, sym, ap, subst, _∙_}
 use mathlib.Core.Bool.{Bool, true, false, cond, not, _&&_, _||_, and-eq-true-iff, false≢true, true≢false}
-use mathlib.Core.List.{List, [], _∷_, _++_, List·Memᴰ}
+use mathlib.Core.List.{List, [], _∷_, List·Memᴰ}
 use mathlib.Core.List.List·Memᴰ.{List·Memᴰ·head, List·Memᴰ·tail}
-use Prim.Native.Nat.{ℕ, _+_, _-_, _*_, _/_, _%_, _<_, _≤_}
+use Prim.Native.Nat.{ℕ, _+_, _-_, _*_, _/_, _%_, _≤_}
 use native.Mathlib.Nat.{le-antisymm}
 use native.Mathlib.Omega.{arith}
 use borrow.Author.Tests.{eqb-true, eqb-false, leb-true, leb-false, not-true, not-false, le-leb, lt-leb, eq-eqb, ne-eqb}
 use lib.Dec.{eqb, leb}
 use lib.ListN.{length, getD, take}
-use Rattle.packet.specs.Request.{sealOf}
 use Rattle.reading.specs.declared.Reading.{Reading}
 use Rattle.reading.specs.declared.Reading.the-variants.{Parts, Refused}
 use Rattle.reading.specs.Reading.{codeOf, addressByte, countByte, behindData, isUnknown, lengthFor, wantedOf, zeroCount, lowBit, partsIn, formOf, isSealed, checked, readingOf, readingNumber, readingPlace}
 use Rattle.reading.proofs.Seal.{sealed-split, sealed-true}
 use Rattle.reading.proofs.Taken.{whole, known, pick}
-use Rattle.refusals.specs.Refusals.{Byte, Unknown, Wants, short, write, read, writeRead, Zero, third, behind, WrongBit, oddWrite, evenRead, oddWriteRead, Wrong, code, long, count, bit, First, Right, Sealed, Refusals}
+use Rattle.refusals.specs.Refusals.{Unknown, Wants, short, write, read, writeRead, Zero, third, behind, WrongBit, oddWrite, evenRead, oddWriteRead, Wrong, code, long, count, bit, First, Right, Sealed, Refusals}
 
 -- an answer of the reader, and what it says of the packet
 data Says (p : List ℕ) : Reading → Type 0 where
@@ -57,7 +56,7 @@ module _ (p : List ℕ) where
 
   wants-is : {n : ℕ} → Wants p n → n ≡ wantedOf p
   unfolding wantedOf
-  wants-is (short h) = simp (lt-leb 3 (length p) h)
+  wants-is (short h) = simp (lt-leb 3 (length p) h) refl
   wants-is (write l c b) = simp (le-leb 3 (length p) (omega (arith, b .0)), c .1, b .1) (omega arith)
   wants-is (read r c b) = simp (le-leb 3 (length p) (omega (arith, b .0)), c .1)
   wants-is (writeRead l c b) = simp (le-leb 3 (length p) (omega (arith, b .0)), c .1, b .1) (omega arith)

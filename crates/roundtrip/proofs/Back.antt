@@ -10,19 +10,19 @@
 use mathlib.Core.Path.{_≡_, refl, sym, ap, ap₂, _∙_}
 use mathlib.Core.Bool.{Bool, true, false, cond, _&&_, and-eq-true-iff}
 use mathlib.Core.List.{List, [], _∷_, _++_, append-assoc}
-use Prim.Native.Nat.{ℕ, _+_, _-_, _*_, _/_, _%_, _≤_}
+use Prim.Native.Nat.{ℕ, _+_, _*_, _/_, _%_, _≤_}
 use native.Mathlib.Omega.{arith}
-use borrow.Author.Tests.{eq-eqb, ne-eqb, le-leb}
+use borrow.Author.Tests.{eq-eqb, ne-eqb}
 use lib.Dec.{eqb}
-use lib.ListN.{length, getD, take, length-append}
-use lib.Seq.{take-append-seam, getD-append-seam, getD-append-add}
+use lib.ListN.{length, getD, take}
+use lib.Seq.{take-append-seam, getD-append-seam}
 use Rattle.reading.specs.declared.Reading.{Reading}
-use Rattle.reading.specs.declared.Reading.the-variants.{Parts, Refused}
-use Rattle.packet.specs.Request.{Request, write, read, writeRead, bodyOf, invertedOf, sealOf, packetOf}
+use Rattle.reading.specs.declared.Reading.the-variants.{Refused}
+use Rattle.packet.specs.Request.{Request, write, read, writeRead, bodyOf, sealOf, packetOf}
 use Rattle.forming.specs.Forming.{goodAddress, goodCount, inLimits, formNumber, formed}
-use Rattle.reading.specs.Reading.{zeroCount, partsIn, formOf, checked, readingOf, readingNumber, readingValues, partsOf, requestIn}
+use Rattle.reading.specs.Reading.{formOf, checked, readingOf, readingNumber, readingValues, partsOf, requestIn}
 use Rattle.reading.proofs.Seal.{sealed-true}
-use Rattle.reading.proofs.Taken.{form-right}
+use Rattle.reading.proofs.Taken.{form-known}
 use Rattle.forming.specs.Buffer.{over}
 use Rattle.forming.proofs.Limits.{count-of, good-of, room-of}
 use Rattle.forming.proofs.Buffer.{take-over}
@@ -46,25 +46,36 @@ longest-is a s r e = omega (arith, length-writeRead a s r)
 
 -- ---- the form
 
+-- an even address byte
+even : (a : ℕ) → eqb (a * 2 % 2) 0 ≡ true
+even a = eq-eqb (a * 2 % 2) 0 (omega arith)
+
+odd : (a : ℕ) → eqb ((a * 2 + 1) % 2) 1 ≡ true
+odd a = eq-eqb ((a * 2 + 1) % 2) 1 (omega arith)
+
+half : (a : ℕ) → a * 2 / 2 ≡ a
+half a = omega arith
+
+half-odd : (a : ℕ) → (a * 2 + 1) / 2 ≡ a
+half-odd a = omega arith
+
 -- a count within its limits is not zero
 some : (n : ℕ) → goodCount n ≡ true → eqb n 0 ≡ false
 some n g = ne-eqb n 0 (λ e. omega (arith, count-of n g .0))
 
 form-write : (a : ℕ) (s : List ℕ) → goodCount (length s) ≡ true → formOf (packetOf (write a s)) ≡ partsOf (write a s)
-unfolding zeroCount partsIn partsOf packetOf bodyOf
+unfolding partsOf packetOf bodyOf
 form-write a s g =
-    let half : a * 2 / 2 ≡ a = omega arith in
     let n = length-write a s in
-    form-right (packetOf (write a s)) refl n (omega arith) (simp (some (length s) g)) (omega arith)
-    ∙ ap (λ (x : ℕ). Parts 0x4B x 3 (length s) 0) half
+    form-known (packetOf (write a s)) 0x4B (a * 2) (length s) (omega arith) refl refl refl refl
+    ∙ simp (eq-eqb _ _ n, some (length s) g, even a, half a)
 
 form-read : (a r : ℕ) → goodCount r ≡ true → formOf (packetOf (read a r)) ≡ partsOf (read a r)
-unfolding zeroCount partsIn partsOf packetOf bodyOf
+unfolding partsOf packetOf bodyOf
 form-read a r g =
-    let half : (a * 2 + 1) / 2 ≡ a = omega arith in
     let n = length-read a r in
-    form-right (packetOf (read a r)) refl n (omega arith) (simp (some r g)) (omega arith)
-    ∙ ap (λ (x : ℕ). Parts 0x87 x 0 0 r) half
+    form-known (packetOf (read a r)) 0x87 (a * 2 + 1) r (omega arith) refl refl refl refl
+    ∙ simp (eq-eqb _ _ n, some r g, odd a, half-odd a)
 
 -- R stands behind the data
 last-count : (a : ℕ) (s : List ℕ) (r : ℕ) → getD (packetOf (writeRead a s r)) (length s + 3) 0 ≡ r
@@ -77,12 +88,11 @@ last-count a s r =
     ∙ getD-append-seam h r t 0
 
 form-writeRead : (a : ℕ) (s : List ℕ) (r : ℕ) → goodCount (length s) ≡ true → goodCount r ≡ true → formOf (packetOf (writeRead a s r)) ≡ partsOf (writeRead a s r)
-unfolding zeroCount partsIn partsOf packetOf bodyOf
+unfolding partsOf packetOf bodyOf
 form-writeRead a s r g f =
-    let half : a * 2 / 2 ≡ a = omega arith in
     let n = length-writeRead a s r in
-    form-right (packetOf (writeRead a s r)) refl n (omega arith) (simp (some (length s) g, last-count a s r, some r f)) (omega arith)
-    ∙ ap₂ (λ (x y : ℕ). Parts 0x2D x 3 (length s) y) half (last-count a s r)
+    form-known (packetOf (writeRead a s r)) 0x2D (a * 2) (length s) (omega arith) refl refl refl refl
+    ∙ simp (eq-eqb _ _ n, some (length s) g, last-count a s r, some r f, even a, half a)
 
 form-of : (q : Request) → inLimits q ≡ true → formOf (packetOf q) ≡ partsOf q
 unfolding inLimits

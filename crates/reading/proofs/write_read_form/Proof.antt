@@ -1,9 +1,10 @@
--- `reading::write_read_form` meets its contract: at each `return` the tests that led there say which case of `formOf` holds.
+-- `reading::write_read_form` meets its contract: at each `return` the tests that led there say which case of the form by its code holds.
+use mathlib.Core.Path.{_≡_, refl}
 use Prim.Native.Nat.{_+_}
 use native.Mathlib.Omega.{arith}
-use borrow.Author.Tests.{eq-eqb, ne-eqb, le-leb}
-use lib.ListN.{length}
-use Rattle.reading.specs.Reading.{isUnknown, wantedOf, zeroCount, partsIn, formOf}
+use borrow.Author.Tests.{eq-eqb, ne-eqb}
+use Rattle.reading.specs.Reading.{formOf}
+use Rattle.reading.proofs.Taken.{formBy, form-known}
 use borrow.Author.Needs.{needs}
 use Rattle.reading.proofs.write_read_form.Statement.{statement}
 use Rattle.reading.proofs.write_read_form.Tie as tie
@@ -26,30 +27,20 @@ cast-refused c = search needs
 refused-requires : tie.Need-refused-requires
 refused-requires c κs = search needs
 
+-- the form by the code, the address byte and the first count
+by-code : (c : tie.After-at2) → let p = c .before .before .before .args .packet .now in formOf p ≡ formBy 0x2D (c .before .at .result) (c .at2 .result) p
+by-code c =
+    let s = c .before .before .before in
+    form-known (s .args .packet .now) 0x2D (c .before .at .result) (c .at2 .result) (s .pre .0) (s .pre .1) refl (c .before .at .ensures) (c .at2 .ensures)
+
 returns : tie.Need-returns
-unfolding formOf isUnknown wantedOf zeroCount partsIn
-returns c =
-    let a = c .before .before in
-    let q = a .before in
-    let s = q .before .before in
-    let h = s .pre .0 in
-    let one = le-leb 1 (length (s .args .packet .now)) (omega arith) in
-    let three = le-leb 3 (length (s .args .packet .now)) h in
-    simp (s .pre .1, one, three, ← q .at .ensures, ← a .at2 .ensures, ne-eqb _ _ (c .before .if1 .taken)) (c .refused .ensures)
+returns c = simp (by-code (c .before .before), ne-eqb _ _ (c .before .if1 .taken)) (c .refused .ensures)
 
 refused-requires-2 : tie.Need-refused-requires-2
 refused-requires-2 c κs = search needs
 
 returns-2 : tie.Need-returns-2
-unfolding formOf isUnknown wantedOf zeroCount partsIn
-returns-2 c =
-    let a = c .before .before .before in
-    let q = a .before in
-    let s = q .before .before in
-    let h = s .pre .0 in
-    let one = le-leb 1 (length (s .args .packet .now)) (omega arith) in
-    let three = le-leb 3 (length (s .args .packet .now)) h in
-    simp (s .pre .1, one, three, ← q .at .ensures, ← a .at2 .ensures, eq-eqb _ _ (c .before .before .if1 .left), eq-eqb _ _ (c .before .if2 .taken)) (c .refused2 .ensures)
+returns-2 c = simp (by-code (c .before .before .before), eq-eqb _ _ (c .before .before .if1 .left), eq-eqb _ _ (c .before .if2 .taken)) (c .refused2 .ensures)
 
 add-behind : tie.Need-add-behind
 add-behind c = search needs
@@ -64,40 +55,16 @@ refused-requires-3 : tie.Need-refused-requires-3
 refused-requires-3 c κs = search needs
 
 returns-3 : tie.Need-returns-3
-unfolding formOf isUnknown wantedOf zeroCount partsIn
-returns-3 c =
-    let a = c .before .before .before .before .before in
-    let q = a .before in
-    let s = q .before .before in
-    let h = s .pre .0 in
-    let one = le-leb 1 (length (s .args .packet .now)) (omega arith) in
-    let three = le-leb 3 (length (s .args .packet .now)) h in
-    simp (s .pre .1, one, three, ← q .at .ensures, ← a .at2 .ensures, eq-eqb _ _ (c .before .before .before .before .if1 .left), ne-eqb _ _ (c .before .before .before .if2 .left), eq-eqb _ _ (c .before .if3 .taken), ne-eqb (a .at2 .result + 3) 0 (λ e. omega arith)) (c .refused3 .ensures)
+returns-3 c = simp (by-code (c .before .before .before .before .before), eq-eqb _ _ (c .before .before .before .before .if1 .left), ne-eqb _ _ (c .before .before .before .if2 .left), eq-eqb _ _ (c .before .if3 .taken), ne-eqb (c .before .before .before .before .before .at2 .result + 3) 0 (λ e. omega arith)) (c .refused3 .ensures)
 
 refused-requires-4 : tie.Need-refused-requires-4
 refused-requires-4 c κs = search needs
 
 returns-4 : tie.Need-returns-4
-unfolding formOf isUnknown wantedOf zeroCount partsIn
-returns-4 c =
-    let a = c .before .before .before .before .before .before in
-    let q = a .before in
-    let s = q .before .before in
-    let h = s .pre .0 in
-    let one = le-leb 1 (length (s .args .packet .now)) (omega arith) in
-    let three = le-leb 3 (length (s .args .packet .now)) h in
-    simp (s .pre .1, one, three, ← q .at .ensures, ← a .at2 .ensures, eq-eqb _ _ (c .before .before .before .before .before .if1 .left), ne-eqb _ _ (c .before .before .before .before .if2 .left), ne-eqb _ _ (c .before .before .if3 .left), ne-eqb _ _ (c .before .if4 .taken)) (c .refused4 .ensures)
+returns-4 c = simp (by-code (c .before .before .before .before .before .before), eq-eqb _ _ (c .before .before .before .before .before .if1 .left), ne-eqb _ _ (c .before .before .before .before .if2 .left), ne-eqb _ _ (c .before .before .if3 .left), ne-eqb _ _ (c .before .if4 .taken)) (c .refused4 .ensures)
 
 returns-5 : tie.Need-returns-5
-unfolding formOf isUnknown wantedOf zeroCount partsIn
-returns-5 c =
-    let a = c .before .before .before .before .before in
-    let q = a .before in
-    let s = q .before .before in
-    let h = s .pre .0 in
-    let one = le-leb 1 (length (s .args .packet .now)) (omega arith) in
-    let three = le-leb 3 (length (s .args .packet .now)) h in
-    simp (s .pre .1, one, three, ← q .at .ensures, ← a .at2 .ensures, eq-eqb _ _ (c .before .before .before .before .if1 .left), ne-eqb _ _ (c .before .before .before .if2 .left), ne-eqb _ _ (c .before .if3 .left), eq-eqb _ _ (c .if4 .left))
+returns-5 c = simp (by-code (c .before .before .before .before .before), eq-eqb _ _ (c .before .before .before .before .if1 .left), ne-eqb _ _ (c .before .before .before .if2 .left), ne-eqb _ _ (c .before .if3 .left), eq-eqb _ _ (c .if4 .left))
 
 pub write-read-form-spec : {M : Type 1} → statement M
 write-read-form-spec =
