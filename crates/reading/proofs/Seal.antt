@@ -1,13 +1,14 @@
 -- Laws of the checksum behind a packet.
 --   sealed-split    a packet that is sealed is its front with the checksum of that behind
 --   sealed-true     a body with its checksum behind it is sealed
+--   two-bytes       two bytes, low byte first, are a number exactly where each is its part of it
 use mathlib.Core.Path.{_≡_, refl, sym, ap, ap₂, subst, _∙_}
-use mathlib.Core.Bool.{true, _&&_, and-eq-true-iff}
+use mathlib.Core.Bool.{Bool, true, false, _&&_, and-eq-true-iff}
 use mathlib.Core.List.{List, [], _∷_, _++_}
-use Prim.Native.Nat.{ℕ, suc, _+_, _-_, _/_, _%_}
+use Prim.Native.Nat.{ℕ, suc, _+_, _-_, _*_, _/_, _%_, _<_}
 use native.Mathlib.Numerals.{add-one}
 use native.Mathlib.Omega.{arith}
-use borrow.Author.Tests.{eq-eqb, eqb-true}
+use borrow.Author.Tests.{eq-eqb, ne-eqb, eqb-true, eqb-false}
 use lib.Dec.{eqb}
 use lib.ListN.{length, getD, take, drop, length-append, take-append-drop}
 use lib.Seq.{drop-cons, drop-length, take-append-seam, getD-append-seam, getD-append-add}
@@ -44,3 +45,11 @@ sealed-true s =
     let first : getD p (length s) 0 ≡ low = getD-append-seam s low (high ∷ []) 0 in
     let second : getD p (length s + 1) 0 ≡ high = getD-append-add s (sealOf s) 1 0 in
     simp (at, front, first, second, eq-eqb low low refl, eq-eqb high high refl)
+
+pub two-bytes : (x y s : ℕ) → x < 256 → eqb (x + y * 256) s ≡ (eqb x (s % 256) && eqb y (s / 256))
+two-bytes x y s h = by (eqb x (s % 256)) (eqb y (s / 256)) refl refl
+  where
+    by : (a b : Bool) → eqb x (s % 256) ≡ a → eqb y (s / 256) ≡ b → eqb (x + y * 256) s ≡ (a && b)
+    by true true p q = eq-eqb (x + y * 256) s (omega (arith, eqb-true x (s % 256) p, eqb-true y (s / 256) q))
+    by true false p q = ne-eqb (x + y * 256) s (λ e. eqb-false y (s / 256) q (omega arith))
+    by false b p q = ne-eqb (x + y * 256) s (λ e. eqb-false x (s % 256) p (omega arith))

@@ -1,13 +1,13 @@
 -- Laws of reading.
---   read-refused, read-parts, read-wrong    the reader's answer from the form and the checksum
 --   whole             a packet of the length that it should have has three bytes and the length of its form
 --   no-zero           a packet without a count of zero
 --   known             the last of the codes is the one that is left
---   formBy c x l p    the form of a packet p of three bytes or more by its code c, its address byte x and its first count l
+--   formBy c p        the form of a packet p of three bytes or more, by its code c
 --   form-known        which is its form
 --   pick              what holds either way of a test holds of the choice by it
 --   Head p b n        the packet p has the low address bit b, a first count that is not zero, and n bytes
 --   by-form           what holds of every refusal and of the parts of each form holds of the form of a packet
+--   read-refused, read-parts, read-wrong    the reader's answer from the form and the checksum
 --   Within r p        the data that the answer r tells of lies within p
 --   reading-within    so it is for every packet
 use mathlib.Core.Path.{_≡_, refl, sym, ap, ap₂, _∙_}
@@ -17,25 +17,10 @@ use Prim.Native.Nat.{ℕ, _+_, _%_, _/_, _≤_}
 use native.Mathlib.Omega.{arith}
 use borrow.Author.Tests.{eqb-true, eqb-false, leb-true, leb-false, not-false, le-leb, eq-eqb}
 use lib.Dec.{eqb, leb}
-use lib.ListN.{length, getD}
+use lib.ListN.{length}
 use Rattle.reading.specs.declared.Reading.{Reading}
 use Rattle.reading.specs.declared.Reading.the-variants.{Parts, Refused}
 use Rattle.reading.specs.Reading.{codeOf, addressByte, countByte, behindData, isUnknown, lengthFor, wantedOf, zeroCount, lowBit, partsIn, formOf, isSealed, wrongCrc, checked, readingOf}
-
--- ---- the answer
-
-module _ (p : List ℕ) (f : Reading) (is : f ≡ formOf p) where
-  pub read-refused : {n k : ℕ} → f ≡ Refused n k → f ≡ readingOf p
-  unfolding readingOf checked
-  read-refused e = e ∙ sym (ap (checked (isSealed p)) (sym is ∙ e))
-
-  pub read-parts : {c a b l r : ℕ} → f ≡ Parts c a b l r → isSealed p ≡ true → f ≡ readingOf p
-  unfolding readingOf checked
-  read-parts e s = e ∙ sym (ap₂ checked s (sym is ∙ e))
-
-  pub read-wrong : {c a b l r : ℕ} → f ≡ Parts c a b l r → isSealed p ≡ false → wrongCrc ≡ readingOf p
-  unfolding readingOf checked
-  read-wrong e s = sym (ap₂ checked s (sym is ∙ e))
 
 -- ---- the form
 
@@ -65,19 +50,16 @@ unfolding isUnknown
 known p u n w r =
     eqb-true (codeOf p) 0x2D (not-false (eqb (codeOf p) 0x2D) (simp (le-leb 1 (length p) n, w, r) at u))
 
-abbrev pub formBy : ℕ → ℕ → ℕ → List ℕ → Reading
-formBy c x l p =
-    let zero = cond (eqb l 0) 2 (cond (eqb c 0x2D && eqb (getD p (l + 3) 0) 0) (l + 3) 0) in
-    cond (not (eqb (length p) (lengthFor c l))) (Refused 17 (lengthFor c l))
+abbrev pub formBy : ℕ → List ℕ → Reading
+formBy c p =
+    let zero = cond (eqb (countByte p) 0) 2 (cond (eqb c 0x2D && eqb (behindData p) 0) (countByte p + 3) 0) in
+    cond (not (eqb (length p) (lengthFor c (countByte p)))) (Refused 17 (lengthFor c (countByte p)))
     (cond (not (eqb zero 0)) (Refused 18 zero)
-    (cond (not (eqb (x % 2) (lowBit c))) (Refused 19 1)
-    (cond (eqb c 0x4B) (Parts 0x4B (x / 2) 3 l 0)
-    (cond (eqb c 0x87) (Parts 0x87 (x / 2) 0 0 l) (Parts 0x2D (x / 2) 3 l (getD p (l + 3) 0))))))
+    (cond (not (eqb (addressByte p % 2) (lowBit c))) (Refused 19 1) (partsIn p)))
 
-pub form-known : (p : List ℕ) (c x l : ℕ) → 3 ≤ length p → codeOf p ≡ c → (eqb c 0x4B || eqb c 0x87 || eqb c 0x2D) ≡ true → x ≡ addressByte p → l ≡ countByte p → formOf p ≡ formBy c x l p
-unfolding formOf isUnknown wantedOf zeroCount partsIn
-form-known p c x l h e k a b =
-    simp (e, k, le-leb 1 (length p) (omega arith), le-leb 3 (length p) h, ← a, ← b)
+pub form-known : (p : List ℕ) (c : ℕ) → 3 ≤ length p → codeOf p ≡ c → (eqb c 0x4B || eqb c 0x87 || eqb c 0x2D) ≡ true → formOf p ≡ formBy c p
+unfolding formOf isUnknown wantedOf zeroCount
+form-known p c h e k = simp (e, k, le-leb 1 (length p) (omega arith), le-leb 3 (length p) h)
 
 pub record Head (p : List ℕ) (low wanted : ℕ) : Type 0 where
   pub bit : addressByte p % 2 ≡ low
@@ -118,6 +100,21 @@ module _ (p : List ℕ) (P : Reading → Type 0) (no : (n k : ℕ) → P (Refuse
     where
       same : (x y : ℕ) → not (eqb x y) ≡ false → x ≡ y
       same x y t = eqb-true x y (not-false (eqb x y) t)
+
+-- ---- the answer
+
+module _ (p : List ℕ) (f : Reading) (is : f ≡ formOf p) where
+  pub read-refused : {n k : ℕ} → f ≡ Refused n k → f ≡ readingOf p
+  unfolding readingOf checked
+  read-refused e = e ∙ sym (ap (checked (isSealed p)) (sym is ∙ e))
+
+  pub read-parts : {c a b l r : ℕ} → f ≡ Parts c a b l r → isSealed p ≡ true → f ≡ readingOf p
+  unfolding readingOf checked
+  read-parts e s = e ∙ sym (ap₂ checked s (sym is ∙ e))
+
+  pub read-wrong : {c a b l r : ℕ} → f ≡ Parts c a b l r → isSealed p ≡ false → wrongCrc ≡ readingOf p
+  unfolding readingOf checked
+  read-wrong e s = sym (ap₂ checked s (sym is ∙ e))
 
 -- ---- where the data lies
 

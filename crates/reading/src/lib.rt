@@ -10,7 +10,7 @@ ghost use Prim.Native.Nat.{_-_, _<_, _≤_};
 ghost use lib.ListN.{length};
 ghost use denote.Ref.{ptr};
 ghost use Rattle.reading.specs.declared.Reading.the-variants.{Refused};
-ghost use Rattle.reading.specs.Reading.{codeOf, isUnknown, formOf, isSealed, readingOf, readingNumber, readingPlace, dataIn, startIn, placeFrom};
+ghost use Rattle.reading.specs.Reading.{codeOf, isUnknown, partsIn, formOf, isSealed, readingOf, readingNumber, readingPlace, dataIn, startIn, placeFrom};
 
 const DONE: u8 = 0;
 
@@ -83,6 +83,40 @@ fn refused(number: u8, place: u16) -> Reading
     Reading::Refused { number, place }
 }
 
+// The parts of a packet that is of its form.
+fn parts_in(packet: &[u8]) -> Reading
+    ensures { λ r. ⌜ r ≡ partsIn (now (packet .entry)) ⌝ }
+{
+    let code = bytes::at(packet, 0);
+    let address = bytes::at(packet, 1) / 2;
+    let count = bytes::at(packet, 2);
+    if code == packet::WRITE {
+        return Reading::Parts {
+            code: packet::WRITE,
+            address,
+            start: 3,
+            len: count as usize,
+            count: 0,
+        };
+    }
+    if code == packet::READ {
+        return Reading::Parts {
+            code: packet::READ,
+            address,
+            start: 0,
+            len: 0,
+            count,
+        };
+    }
+    Reading::Parts {
+        code: packet::WRITE_READ,
+        address,
+        start: 3,
+        len: count as usize,
+        count: bytes::at(packet, count as usize + 3),
+    }
+}
+
 fn is_unknown(packet: &[u8]) -> bool
     ensures { λ r. ⌜ r ≡ isUnknown (now (packet .entry)) ⌝ }
 {
@@ -119,7 +153,6 @@ fn write_form(packet: &[u8]) -> Reading
     requires { ⌜ (3 ≤ length (now packet)) × (codeOf (now packet) ≡ 0x4B) ⌝ }
     ensures { λ r. ⌜ r ≡ formOf (now (packet .entry)) ⌝ }
 {
-    let address = bytes::at(packet, 1);
     let len = bytes::at(packet, 2) as usize;
     let wanted = len + 5;
     if packet.len() != wanted {
@@ -128,47 +161,32 @@ fn write_form(packet: &[u8]) -> Reading
     if len == 0 {
         return refused(REFUSED_COUNT, 2);
     }
-    if address % 2 != 0 {
+    if bytes::at(packet, 1) % 2 != 0 {
         return refused(REFUSED_BIT, 1);
     }
-    Reading::Parts {
-        code: packet::WRITE,
-        address: address / 2,
-        start: 3,
-        len,
-        count: 0,
-    }
+    parts_in(packet)
 }
 
 fn read_form(packet: &[u8]) -> Reading
     requires { ⌜ (3 ≤ length (now packet)) × (codeOf (now packet) ≡ 0x87) ⌝ }
     ensures { λ r. ⌜ r ≡ formOf (now (packet .entry)) ⌝ }
 {
-    let address = bytes::at(packet, 1);
-    let count = bytes::at(packet, 2);
     if packet.len() != 5 {
         return refused(REFUSED_LENGTH, 5);
     }
-    if count == 0 {
+    if bytes::at(packet, 2) == 0 {
         return refused(REFUSED_COUNT, 2);
     }
-    if address % 2 != 1 {
+    if bytes::at(packet, 1) % 2 != 1 {
         return refused(REFUSED_BIT, 1);
     }
-    Reading::Parts {
-        code: packet::READ,
-        address: address / 2,
-        start: 0,
-        len: 0,
-        count,
-    }
+    parts_in(packet)
 }
 
 fn write_read_form(packet: &[u8]) -> Reading
     requires { ⌜ (3 ≤ length (now packet)) × (codeOf (now packet) ≡ 0x2D) ⌝ }
     ensures { λ r. ⌜ r ≡ formOf (now (packet .entry)) ⌝ }
 {
-    let address = bytes::at(packet, 1);
     let len = bytes::at(packet, 2) as usize;
     let wanted = len + 6;
     if packet.len() != wanted {
@@ -178,20 +196,13 @@ fn write_read_form(packet: &[u8]) -> Reading
         return refused(REFUSED_COUNT, 2); // also where R is zero
     }
     let behind = len + 3;
-    let count = packet[behind];
-    if count == 0 {
+    if packet[behind] == 0 {
         return refused(REFUSED_COUNT, behind as u16);
     }
-    if address % 2 != 0 {
+    if bytes::at(packet, 1) % 2 != 0 {
         return refused(REFUSED_BIT, 1);
     }
-    Reading::Parts {
-        code: packet::WRITE_READ,
-        address: address / 2,
-        start: 3,
-        len,
-        count,
-    }
+    parts_in(packet)
 }
 
 // The parts, or what is wrong with the form.
@@ -229,12 +240,9 @@ fn is_sealed(packet: &[u8]) -> bool
     ensures { λ r. ⌜ r ≡ isSealed (now (packet .entry)) ⌝ }
 {
     let place = seal_place(packet);
-    let sent = packet::sent_crc(&packet[..place]);
-    if bytes::at(packet, place) == (sent % 256) as u8 {
-        bytes::at(packet, place + 1) == (sent / 256) as u8
-    } else {
-        false
-    }
+    let low = bytes::at(packet, place) as u16;
+    let high = bytes::at(packet, place + 1) as u16;
+    low + high * 256 == packet::sent_crc(&packet[..place])
 }
 
 // Takes any bytes apart: the parts, what is wrong with the form, or 14.

@@ -56,7 +56,7 @@ module _ (p : List ℕ) where
 
   wants-is : {n : ℕ} → Wants p n → n ≡ wantedOf p
   unfolding wantedOf
-  wants-is (short h) = simp (lt-leb 3 (length p) h) refl
+  wants-is (short h) = simp (lt-leb 3 (length p) h) (omega arith)
   wants-is (write l c b) = simp (le-leb 3 (length p) (omega (arith, b .0)), c .1, b .1) (omega arith)
   wants-is (read r c b) = simp (le-leb 3 (length p) (omega (arith, b .0)), c .1)
   wants-is (writeRead l c b) = simp (le-leb 3 (length p) (omega (arith, b .0)), c .1, b .1) (omega arith)

@@ -20,7 +20,7 @@ use Rattle.reading.specs.declared.Reading.{Reading}
 use Rattle.reading.specs.declared.Reading.the-variants.{Refused}
 use Rattle.packet.specs.Request.{Request, write, read, writeRead, bodyOf, sealOf, packetOf}
 use Rattle.forming.specs.Forming.{goodAddress, goodCount, inLimits, formNumber, formed}
-use Rattle.reading.specs.Reading.{formOf, checked, readingOf, readingNumber, readingValues, partsOf, requestIn}
+use Rattle.reading.specs.Reading.{partsIn, formOf, checked, readingOf, readingNumber, readingValues, partsOf, requestIn}
 use Rattle.reading.proofs.Seal.{sealed-true}
 use Rattle.reading.proofs.Taken.{form-known}
 use Rattle.forming.specs.Buffer.{over}
@@ -64,17 +64,17 @@ some : (n : ℕ) → goodCount n ≡ true → eqb n 0 ≡ false
 some n g = ne-eqb n 0 (λ e. omega (arith, count-of n g .0))
 
 form-write : (a : ℕ) (s : List ℕ) → goodCount (length s) ≡ true → formOf (packetOf (write a s)) ≡ partsOf (write a s)
-unfolding partsOf packetOf bodyOf
+unfolding partsIn partsOf packetOf bodyOf
 form-write a s g =
     let n = length-write a s in
-    form-known (packetOf (write a s)) 0x4B (a * 2) (length s) (omega arith) refl refl refl refl
+    form-known (packetOf (write a s)) 0x4B (omega arith) refl refl
     ∙ simp (eq-eqb _ _ n, some (length s) g, even a, half a)
 
 form-read : (a r : ℕ) → goodCount r ≡ true → formOf (packetOf (read a r)) ≡ partsOf (read a r)
-unfolding partsOf packetOf bodyOf
+unfolding partsIn partsOf packetOf bodyOf
 form-read a r g =
     let n = length-read a r in
-    form-known (packetOf (read a r)) 0x87 (a * 2 + 1) r (omega arith) refl refl refl refl
+    form-known (packetOf (read a r)) 0x87 (omega arith) refl refl
     ∙ simp (eq-eqb _ _ n, some r g, odd a, half-odd a)
 
 -- R stands behind the data
@@ -88,10 +88,10 @@ last-count a s r =
     ∙ getD-append-seam h r t 0
 
 form-writeRead : (a : ℕ) (s : List ℕ) (r : ℕ) → goodCount (length s) ≡ true → goodCount r ≡ true → formOf (packetOf (writeRead a s r)) ≡ partsOf (writeRead a s r)
-unfolding partsOf packetOf bodyOf
+unfolding partsIn partsOf packetOf bodyOf
 form-writeRead a s r g f =
     let n = length-writeRead a s r in
-    form-known (packetOf (writeRead a s r)) 0x2D (a * 2) (length s) (omega arith) refl refl refl refl
+    form-known (packetOf (writeRead a s r)) 0x2D (omega arith) refl refl
     ∙ simp (eq-eqb _ _ n, some (length s) g, last-count a s r, some r f, even a, half a)
 
 form-of : (q : Request) → inLimits q ≡ true → formOf (packetOf q) ≡ partsOf q
