@@ -34,31 +34,35 @@
  *   below, and the number of bytes to read, R below.
  *
  * Reading a packet
- *   trelvox_read returns one answer, which has a number and a place:
+ *   trelvox_read returns one answer, which has a number and a place.
+ *   TRELVOX_NUMBER(answer) is one of these, with TRELVOX_PLACE(answer):
  *
- *     TRELVOX_NUMBER(answer)     the place, TRELVOX_PLACE(answer)
+ *     TRELVOX_DONE           0   accepted, and the parts are set
  *
- *     TRELVOX_DONE               accepted, and the parts are set; no place
- *     TRELVOX_UNKNOWN_CODE       the first byte is not 4Bh, 87h or 2Dh; the
- *                                place is its offset, 0
- *     TRELVOX_WRONG_LENGTH       too short or too long for its form; the place
- *                                is how many bytes the form wants: L + 5 for
- *                                4Bh, 5 for 87h, L + 6 for 2Dh. It is 5 where
+ *     TRELVOX_UNKNOWN_CODE  16   the first byte is not 4Bh, 87h or 2Dh
+ *                                place: its offset, 0
+ *
+ *     TRELVOX_WRONG_LENGTH  17   too short or too long for its form
+ *                                place: how many bytes are wanted, L + 5 for
+ *                                4Bh, 5 for 87h, L + 6 for 2Dh, and 5 where
  *                                the packet ends before its third byte, an
  *                                empty packet included
- *     TRELVOX_ZERO_COUNT         L or R is 0; the place is the offset of that
- *                                count: 2, or L + 3 for R of 2Dh; where both
- *                                are 0, that of L
- *     TRELVOX_WRONG_BIT          the low bit of the address byte is not that
- *                                of the form, 1 for 87h and else 0; the place
- *                                is its offset, 1
- *     TRELVOX_WRONG_CRC          of its form, but the CRC-16 is wrong; no
- *                                place
  *
- *   They are looked at in this order from TRELVOX_UNKNOWN_CODE on, and the
- *   first that holds gives the answer; a length is held to an L of 0 as it
- *   stands. Offsets count from 0. No place is 0, so that an accepted packet
- *   gives the answer 0. A refused call changes none of the parts.
+ *     TRELVOX_ZERO_COUNT    18   a count is 0
+ *                                place: its offset, 2 for L and for R of 87h,
+ *                                L + 3 for R of 2Dh; where L and R are both 0,
+ *                                that of L
+ *
+ *     TRELVOX_WRONG_BIT     19   the low bit of the address byte is not 1 in
+ *                                87h, or not 0 in 4Bh or 2Dh
+ *                                place: the offset of that byte, 1
+ *
+ *     TRELVOX_WRONG_CRC     14   the form is right, and the CRC-16 is wrong
+ *
+ *   They are looked at in this order, from 16 on, and the first that holds
+ *   gives the answer. Offsets count from 0. Where there is no place it is 0,
+ *   so the whole answer is 0 for an accepted packet. A refused call changes
+ *   none of the parts.
  *
  * Example, the file examples/c/level.c; it prints 2D 40 01 00 02 96 38
  *
@@ -99,7 +103,7 @@
  *         unsigned place = TRELVOX_PLACE(answer);
  *
  *         switch (TRELVOX_NUMBER(answer)) {
- *         case TRELVOX_DONE: printf("sound, for address %02X\n", (unsigned)parts[TRELVOX_ADDRESS]); break;
+ *         case TRELVOX_DONE: printf("sound, for address %02X\n", (unsigned)parts[TRELVOX_PART_ADDRESS]); break;
  *         case TRELVOX_UNKNOWN_CODE: printf("byte %u begins no packet\n", place); break;
  *         case TRELVOX_WRONG_LENGTH: printf("%u bytes are wanted\n", place); break;
  *         case TRELVOX_ZERO_COUNT: printf("byte %u is a count of zero\n", place); break;
@@ -149,11 +153,11 @@ extern "C" {
 #define TRELVOX_PLACE(answer) ((uint32_t)(answer) >> 8)
 
 /* Where each part of a packet stands among the parts, and how many there are. */
-#define TRELVOX_CODE 0
-#define TRELVOX_ADDRESS 1
-#define TRELVOX_START 2
-#define TRELVOX_LENGTH 3
-#define TRELVOX_COUNT 4
+#define TRELVOX_PART_CODE 0
+#define TRELVOX_PART_ADDRESS 1
+#define TRELVOX_PART_START 2
+#define TRELVOX_PART_LENGTH 3
+#define TRELVOX_PART_COUNT 4
 #define TRELVOX_PARTS 5
 
 /*
@@ -244,14 +248,15 @@ uint8_t trelvox_form_write_read(uint32_t address,
  * Takes a packet apart, any bytes whatever.
  *
  *   packet, packet_length   the bytes
- *   parts                   takes the five parts of an accepted packet:
+ *   parts                   takes the five parts of an accepted packet, and
+ *                           is not NULL:
  *
- *     parts[TRELVOX_CODE]      4Bh, 87h or 2Dh
- *     parts[TRELVOX_ADDRESS]   0 to 127
- *     parts[TRELVOX_START]     the offset in the packet of the data to be
- *                              written: 3, and for 87h, which has none, 0
- *     parts[TRELVOX_LENGTH]    how many bytes of data: L, and for 87h 0
- *     parts[TRELVOX_COUNT]     how many bytes to read: R, and for 4Bh 0
+ *     parts[TRELVOX_PART_CODE]      4Bh, 87h or 2Dh
+ *     parts[TRELVOX_PART_ADDRESS]   0 to 127
+ *     parts[TRELVOX_PART_START]     the offset in the packet of the data to be
+ *                                   written: 3, and for 87h, which has none, 0
+ *     parts[TRELVOX_PART_LENGTH]    how many bytes of data: L, and for 87h 0
+ *     parts[TRELVOX_PART_COUNT]     how many bytes to read: R, and for 4Bh 0
  *
  * Returns an answer, of which TRELVOX_NUMBER gives TRELVOX_DONE,
  * TRELVOX_UNKNOWN_CODE, TRELVOX_WRONG_LENGTH, TRELVOX_ZERO_COUNT,

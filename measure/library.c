@@ -85,7 +85,7 @@ static void read_work(const struct side *side, size_t length, unsigned long call
     uint64_t sum = 0;
     while (calls-- > 0) {
         sum += side->read(packet, length, parts);
-        sum += parts[TRELVOX_LENGTH];
+        sum += parts[TRELVOX_PART_LENGTH];
     }
     sink = sum;
 }

@@ -10,7 +10,7 @@ static void tell(const uint8_t *packet, size_t length)
     unsigned place = TRELVOX_PLACE(answer);
 
     switch (TRELVOX_NUMBER(answer)) {
-    case TRELVOX_DONE: printf("sound, for address %02X\n", (unsigned)parts[TRELVOX_ADDRESS]); break;
+    case TRELVOX_DONE: printf("sound, for address %02X\n", (unsigned)parts[TRELVOX_PART_ADDRESS]); break;
     case TRELVOX_UNKNOWN_CODE: printf("byte %u begins no packet\n", place); break;
     case TRELVOX_WRONG_LENGTH: printf("%u bytes are wanted\n", place); break;
     case TRELVOX_ZERO_COUNT: printf("byte %u is a count of zero\n", place); break;

@@ -378,11 +378,11 @@ static void compare_formed_again(const struct packet *p, enum kind kind, const s
 {
     static uint8_t again[TRELVOX_LONGEST_PACKET];
     static struct request q;
-    q.form = parts[TRELVOX_CODE] == 0x4B ? WRITE : parts[TRELVOX_CODE] == 0x87 ? READ : WRITE_READ;
-    q.address = (uint32_t)parts[TRELVOX_ADDRESS];
-    q.data_length = parts[TRELVOX_LENGTH];
-    q.count = (uint32_t)parts[TRELVOX_COUNT];
-    memcpy(q.data, p->bytes + parts[TRELVOX_START], q.data_length);
+    q.form = parts[TRELVOX_PART_CODE] == 0x4B ? WRITE : parts[TRELVOX_PART_CODE] == 0x87 ? READ : WRITE_READ;
+    q.address = (uint32_t)parts[TRELVOX_PART_ADDRESS];
+    q.data_length = parts[TRELVOX_PART_LENGTH];
+    q.count = (uint32_t)parts[TRELVOX_PART_COUNT];
+    memcpy(q.data, p->bytes + parts[TRELVOX_PART_START], q.data_length);
     uint8_t number = form_ours(&q, again, sizeof again);
     if (number == 0 && memcmp(again, p->bytes, p->length) == 0)
         return;

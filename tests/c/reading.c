@@ -190,7 +190,7 @@ static int reads_back(uint8_t code, uint32_t address, size_t data_length, uint32
 {
     size_t parts[TRELVOX_PARTS] = {code, address, data_length == 0 ? 0 : 3, data_length, count};
     return reads_as(formed, length, TRELVOX_DONE, 0, parts) &&
-           memcmp(formed + parts[TRELVOX_START], data, data_length) == 0;
+           memcmp(formed + parts[TRELVOX_PART_START], data, data_length) == 0;
 }
 
 static int write_reads_back(uint32_t address, size_t data_length)
