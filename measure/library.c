@@ -156,7 +156,8 @@ static void check_agreement(void)
                    memcmp(ours, theirs, sizeof ours) == 0,
                "reading");
     for (size_t length = 0; length < sizeof packet; length++)
-        must_agree(trelvox_read(packet, length, ours) == baseline_read(packet, length, theirs), "reading a part");
+        must_agree(trelvox_read(packet, length, ours) == baseline_read(packet, length, theirs),
+                   "reading a part");
 }
 
 /* ---- The table ------------------------------------------------------------------------------- */

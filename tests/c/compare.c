@@ -378,7 +378,8 @@ static void compare_formed_again(const struct packet *p, enum kind kind, const s
 {
     static uint8_t again[TRELVOX_LONGEST_PACKET];
     static struct request q;
-    q.form = parts[TRELVOX_PART_CODE] == 0x4B ? WRITE : parts[TRELVOX_PART_CODE] == 0x87 ? READ : WRITE_READ;
+    size_t code = parts[TRELVOX_PART_CODE];
+    q.form = code == 0x4B ? WRITE : code == 0x87 ? READ : WRITE_READ;
     q.address = (uint32_t)parts[TRELVOX_PART_ADDRESS];
     q.data_length = parts[TRELVOX_PART_LENGTH];
     q.count = (uint32_t)parts[TRELVOX_PART_COUNT];
@@ -465,10 +466,12 @@ static unsigned long compare_lengths(void)
     unsigned long cases = 0;
     for (size_t length = 0; length <= EACH_LENGTH; length++)
         for (size_t code = 0; code < sizeof first_bytes; code++) {
-            const uint8_t firsts[] = {0, (uint8_t)(length - 5), (uint8_t)(length - 6), (uint8_t)random_number()};
+            const uint8_t firsts[] = {0, (uint8_t)(length - 5), (uint8_t)(length - 6),
+                                      (uint8_t)random_number()};
             for (size_t first = 0; first < sizeof firsts; first++) {
                 cases += compare_counts(length, first_bytes[code], firsts[first], 0);
-                cases += compare_counts(length, first_bytes[code], firsts[first], (uint8_t)between(1, 255));
+                cases += compare_counts(length, first_bytes[code], firsts[first],
+                                        (uint8_t)between(1, 255));
             }
         }
     return cases;
@@ -534,8 +537,11 @@ int main(void)
 
     unsigned long drawn = compare_drawn();
     print_reading("drawn, whole and damaged", drawn);
-    unsigned long shaped = compare_lengths() + compare_bytes() + compare_heads();
-    print_reading("each length to 300, each byte of a short one changed, each first and third byte", shaped);
+    unsigned long shaped = compare_lengths();
+    shaped += compare_bytes();
+    shaped += compare_heads();
+    print_reading("each length to 300, each byte of a short one changed, each first and third byte",
+                  shaped);
     cases += drawn + shaped;
 
     printf("\n%lu cases, library and reference agree in all\n", cases);

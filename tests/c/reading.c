@@ -1,7 +1,7 @@
 /*
- * Reads packets, good and damaged (document 01, "Packets", P6 and P7; document 02, R-1, with P8), and
- * reads back what the forming calls formed. After each call the answer, the five parts, the numbers
- * beside them and the packet are compared.
+ * Reads packets, good and damaged (document 01, "Packets", P6 and P7; document 02, R-1, with P8),
+ * and reads back what the forming calls formed. After each call the answer, the five parts, the
+ * numbers beside them and the packet are compared.
  */
 #include <string.h>
 
@@ -65,7 +65,8 @@ static void check_p7_and_p8(void)
     int all_refused = 1;
 
     heading("Refused");
-    check(is_refused(packet, sizeof packet, TRELVOX_WRONG_CRC, 0), "87 41 02 FE 46: 14, no place (P7)");
+    check(is_refused(packet, sizeof packet, TRELVOX_WRONG_CRC, 0),
+          "87 41 02 FE 46: 14, no place (P7)");
     packet[2] = 0;
     for (unsigned ending = 0; ending < 65536; ending++) {
         packet[3] = (uint8_t)(ending & 0xFF);
@@ -76,7 +77,8 @@ static void check_p7_and_p8(void)
 }
 
 /* Puts the right checksum behind the bytes, so that only the form can be wrong. */
-static int is_refused_with_right_crc(const uint8_t *bytes, size_t length, unsigned number, size_t place)
+static int is_refused_with_right_crc(const uint8_t *bytes, size_t length, unsigned number,
+                                     size_t place)
 {
     uint8_t packet[300];
     uint16_t sent = (uint16_t)(65535 - trelvox_crc16(bytes, length));
@@ -151,9 +153,11 @@ static void check_short(void)
     static const uint8_t unknown[] = {0x41, 0x87};
 
     check(is_refused(NULL, 0, TRELVOX_WRONG_LENGTH, 5), "no bytes, NULL: 17, wanting 5");
-    check(is_refused(unknown, 1, TRELVOX_UNKNOWN_CODE, 0) && is_refused(unknown, 2, TRELVOX_UNKNOWN_CODE, 0),
+    check(is_refused(unknown, 1, TRELVOX_UNKNOWN_CODE, 0) &&
+              is_refused(unknown, 2, TRELVOX_UNKNOWN_CODE, 0),
           "41, and 41 87: 16 at 0");
-    check(is_refused_cut(write_packet, sizeof write_packet) && is_refused_cut(read_packet, sizeof read_packet) &&
+    check(is_refused_cut(write_packet, sizeof write_packet) &&
+              is_refused_cut(read_packet, sizeof read_packet) &&
               is_refused_cut(write_read_packet, sizeof write_read_packet),
           "each packet above cut anywhere: 17, wanting what it had, or 5 before the third byte");
 }
@@ -175,8 +179,8 @@ static void check_turned_bits(void)
         else
             all_refused &= is_refused(packet, sizeof packet, TRELVOX_WRONG_CRC, 0);
     }
-    check(all_refused, "4B 40 03 01 08 0F E7 CB with any one bit turned: 16, 19 or 17, or 14 from data on "
-                       "and in the address");
+    check(all_refused, "4B 40 03 01 08 0F E7 CB with any one bit turned: 16, 19 or 17, or 14 from "
+                       "data on and in the address");
 }
 
 /* ---- Round trips ----------------------------------------------------------------------------- */

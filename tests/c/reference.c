@@ -136,12 +136,15 @@ static int crc_is_right(const uint8_t *packet, size_t length)
     return sent == 65535u - reference_crc16(packet, length - 2);
 }
 
-/* What is wrong with a packet, in the order of R-1; number 0 where nothing is. R of a 2Dh stands last before the CRC. */
+/*
+ * What is wrong with a packet, in the order of R-1; number 0 where nothing is. R of a 2Dh stands
+ * last before the CRC.
+ */
 static struct reference_answer wrong_with(const uint8_t *packet, size_t length)
 {
     struct reference_answer unknown = {16, 0}, misfit = {17, length_wanted(packet, length)};
-    struct reference_answer no_first = {18, 2}, no_last = {18, length - 3}, bit = {19, 1}, crc = {14, 0};
-    struct reference_answer nothing = {0, 0};
+    struct reference_answer no_first = {18, 2}, no_last = {18, length - 3}, bit = {19, 1};
+    struct reference_answer crc = {14, 0}, nothing = {0, 0};
     if (length > 0 && is_unknown(packet[0]))
         return unknown;
     if (length != misfit.place)

@@ -53,7 +53,7 @@ static void form_write_read(void)
     result = trelvox_form_write_read(address, data, length, count, buffer, sizeof buffer);
 }
 
-/* The bytes lent are a write of this length but for their CRC, where the limits are good; else a count is zero. */
+/* Where the limits are good the bytes are a write of this length but for its CRC, else L is 0. */
 static void read(void)
 {
     result = trelvox_read(data, length, parts);

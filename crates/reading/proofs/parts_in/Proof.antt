@@ -1,4 +1,5 @@
 -- `reading::parts_in` meets its contract: the code says which parts there are.
+use mathlib.Core.Path.{refl}
 use borrow.Author.Tests.{eq-eqb, ne-eqb}
 use Rattle.reading.specs.Reading.{partsIn}
 use borrow.Author.Needs.{needs}
@@ -19,11 +20,11 @@ cast-t7 c = search needs
 
 returns : tie.Need-returns
 unfolding partsIn
-returns c = simp (← c .before .before .before .at .ensures, ← c .before .before .at2 .ensures, ← c .before .at3 .ensures, eq-eqb _ _ (c .if1 .taken))
+returns c = simp (← c .before .before .before .at .ensures, ← c .before .before .at2 .ensures, ← c .before .at3 .ensures, eq-eqb _ _ (c .if1 .taken)) refl
 
 returns-2 : tie.Need-returns-2
 unfolding partsIn
-returns-2 c = simp (← c .before .before .before .before .at .ensures, ← c .before .before .before .at2 .ensures, ← c .before .before .at3 .ensures, ne-eqb _ _ (c .before .if1 .left), eq-eqb _ _ (c .if2 .taken))
+returns-2 c = simp (← c .before .before .before .before .at .ensures, ← c .before .before .before .at2 .ensures, ← c .before .before .at3 .ensures, ne-eqb _ _ (c .before .if1 .left), eq-eqb _ _ (c .if2 .taken)) refl
 
 cast-t8 : tie.Need-cast-t8
 cast-t8 c = search needs
@@ -39,7 +40,7 @@ at-requires-4 c κs = search needs
 
 returns-3 : tie.Need-returns-3
 unfolding partsIn
-returns-3 c = simp (← c .before .before .before .before .before .at .ensures, ← c .before .before .before .before .at2 .ensures, ← c .before .before .before .at3 .ensures, ← c .at4 .ensures, ne-eqb _ _ (c .before .before .if1 .left), ne-eqb _ _ (c .before .if2 .left))
+returns-3 c = simp (← c .before .before .before .before .before .at .ensures, ← c .before .before .before .before .at2 .ensures, ← c .before .before .before .at3 .ensures, ← c .at4 .ensures, ne-eqb _ _ (c .before .before .if1 .left), ne-eqb _ _ (c .before .if2 .left)) refl
 
 pub parts-in-spec : {M : Type 1} → statement M
 parts-in-spec =
