@@ -1,4 +1,10 @@
-"""Drawn scripts for tests/fuzz. A mix is a function from a source of random numbers to events; SCRIPTS names them all."""
+"""Drawn scripts for tests/fuzz. A mix is a function from a source of random numbers to events; SCRIPTS names them all.
+
+No script takes a probe off the line. The mix `swaps`, which is not among them, has the event ('withdraw', ID) as well; it packs into a form
+that the model alone has.
+"""
+
+from itertools import accumulate
 
 from shared import loaded_tool
 
@@ -230,3 +236,106 @@ SCRIPTS = {  # how many parts of the whole each is, and how it is drawn
     'any bytes': (2, any_bytes),
     'mutated': (6, mutated),
 }
+
+
+# ---- probes that come and go
+
+
+def unsound(source, probe):
+    """Eight bytes near this ID that are none: a wrong CRC, the family code 00, zeros, or any."""
+    return source.choice((
+        probe[:7] + bytes([probe[7] ^ 1 << source.randrange(8)]),
+        tool.with_crc(bytes(1) + probe[1:7]),
+        bytes(8),
+        source.randbytes(8),
+    ))
+
+
+def coming(source, line, gone):
+    """A fitting: mostly of a new probe or of one that was there before; else of one that is there, or of no sound ID."""
+    probe, way = new_id(source), source.randrange(10)
+    if way < 5 and gone:
+        probe = source.choice(gone)
+    elif way == 5 and line:
+        probe = source.choice(line)
+    elif way == 6:
+        return 'fit', unsound(source, probe)
+    if probe not in line and len(line) < 64:
+        line.append(probe)
+    return 'fit', probe
+
+
+def going(source, line, gone):
+    """A withdrawal: mostly of a probe that is there; else of one that is gone or never was, or of no sound ID."""
+    if line and source.randrange(10) < 7:
+        gone.append(line.pop(source.choice((0, -1, source.randrange(len(line))))))
+        return 'withdraw', gone[-1]
+    absent = [probe for probe in gone if probe not in line] + [new_id(source)]
+    return 'withdraw', source.choice((source.choice(absent), unsound(source, source.choice(line + absent))))
+
+
+def swapping(source, line, gone):
+    """Mostly one event; now and then a probe goes and comes again at once, often the last one."""
+    if line and source.randrange(5) == 0:
+        probe = line.pop(source.choice((-1, source.randrange(len(line)))))
+        line.append(probe)
+        return [('withdraw', probe), ('fit', probe)]
+    return [source.choice((coming, going))(source, line, gone)]
+
+
+def course(source, line):
+    """A reset, a ROM command with what it takes, often meant for the last probe, and slots; after each a register is read."""
+    code = source.choice((0x33, 0x55, 0x55, 0x55, 0xF0, 0xF0, 0xCC, 0xA5, 0xA5, 0xA5))
+    events = done(0xB4) + rom_command(source, code, source.choice((line, line[-1:])) or [new_id(source)])
+    events += [event for _ in range(source.randrange(4)) for event in slots(source)]
+    looks = [READ], [READ], [write(0xE1, 0xE1), READ], [write(0xE1, 0xC3), READ]
+    return [event for first in events for event in [first, *(source.choice(looks) if first == WAIT else [])]]
+
+
+def mark_swapped(source, line):
+    """The last probe is matched, and another comes in its room or it comes itself; then often a reset and Resume."""
+    probe = line.pop() if line else new_id(source)
+    line.append(source.choice((probe, new_id(source))))
+    events = done(0xB4) + [event for byte in (0x55, *probe) for event in done(0xA5, byte)]
+    return events + [('withdraw', probe), ('fit', line[-1])] + source.choice(([], done(0xB4) + done(0xA5, 0xA5)))
+
+
+def stirred(source, events, line, gone):
+    """The events with swaps at any place, also where a command is pending, and now and then with another command."""
+    seldom = source.choice((5, 12, 40))
+    for event in events:
+        yield event
+        if source.randrange(seldom) == 0:
+            yield from swapping(source, line, gone)
+        if source.randrange(100) == 0:
+            yield command(source, line)
+
+
+def swaps(source):
+    """Some probes, or about 64; then courses, stirred, the last one often cut short. No more than the longest script has room for."""
+    line, gone = [], []
+    number = source.choice((source.randrange(1, 7), source.randrange(1, 7), source.randrange(80, 110)))
+    events = [write(0xD2, source.choice((0xE1, 0xF0)))] + [coming(source, line, gone) for _ in range(number)]
+    for left in reversed(range(source.randrange(2, 6))):
+        steps = course(source, line)
+        end = len(steps) if left or source.randrange(2) else source.randrange(len(steps))
+        events += stirred(source, steps[:end], line, gone)
+        events += swapping(source, line, gone) if source.randrange(2) else []
+    events += mark_swapped(source, line) if source.randrange(6) == 0 else []
+    sizes = accumulate(len(swap_bits(event)) for event in events)
+    return [event for event, size in zip(events, sizes) if size <= 8 * tool.LONGEST - tool.COUNT_BITS]
+
+
+def swap_bits(event):
+    """As in a script, but that a bit stands before an ID: 0 for a fitting, 1 for a withdrawal."""
+    word, data = event
+    if word not in ('fit', 'withdraw'):
+        return tool.bits_of(event)
+    bits = tool.bits_of(('fit', data))
+    return bits[:2] + str(int(word == 'withdraw')) + bits[2:]
+
+
+def swaps_packed(events):
+    """As tool.script_of packs a script."""
+    bits = f'{len(events):016b}' + ''.join(map(swap_bits, events))
+    return bytes(int(bits[i:i + 8].ljust(8, '0'), 2) for i in range(0, len(bits), 8))

@@ -6,6 +6,9 @@
  *                          first; transcripts in the same form
  *   bench_model --probes   as --many, with the probes that each script leaves in place of its transcript;
  *                          one that is not of the form leaves none
+ *   bench_model --swaps    as --many, with the probes behind the transcript, of a form that the bench does not have:
+ *                          of kind 3 one more bit stands before the ID, 0 for a fitting, 1 for a withdrawal,
+ *                          which prints as O
  */
 #include <stdint.h>
 #include <stdio.h>
@@ -279,15 +282,23 @@ static uint8_t crc8(const uint8_t *x, int n)
     return r;
 }
 
+/* Where the probe of this ID stands; where none has it, the place behind the last. */
+static int place_of(const struct bridge *b, const uint8_t *id)
+{
+    int i = 0;
+    while (i < b->count && memcmp(b->probes[i].id, id, 8) != 0)
+        i++;
+    return i;
+}
+
 static unsigned fit(struct bridge *b, const uint8_t *id)
 {
     if (crc8(id, 7) != id[7])
         return 2;
     if (id[0] == 0)
         return 3;
-    for (int i = 0; i < b->count; i++)
-        if (memcmp(b->probes[i].id, id, 8) == 0)
-            return 4;
+    if (place_of(b, id) < b->count)
+        return 4;
     if (b->count == PROBES_MOST)
         return 1;
     struct probe *p = &b->probes[b->count++];
@@ -296,12 +307,24 @@ static unsigned fit(struct bridge *b, const uint8_t *id)
     return 0;
 }
 
+/* Those behind the probe move down. */
+static unsigned withdraw(struct bridge *b, const uint8_t *id)
+{
+    int i = place_of(b, id);
+    if (i == b->count)
+        return 20;
+    b->count--;
+    memmove(&b->probes[i], &b->probes[i + 1], (size_t)(b->count - i) * sizeof b->probes[0]);
+    return 0;
+}
+
 /* ---- the script */
 
 struct reader {
     const uint8_t *bytes;
     size_t bits, place;
-    int past; /* a bit behind the end was asked for */
+    int past;  /* a bit behind the end was asked for */
+    int swaps; /* the form with withdrawals */
 };
 
 static unsigned get(struct reader *r, unsigned n)
@@ -324,23 +347,31 @@ static void get_bytes(struct reader *r, uint8_t *x, unsigned n)
         *x = (uint8_t)get(r, 8);
 }
 
-static struct reader opened(const uint8_t *bytes, size_t n)
+/* Whether an event of kind 3 withdraws: the bit before the ID, in the form that has one. */
+static unsigned get_withdraws(struct reader *r)
 {
-    return (struct reader){.bytes = bytes, .bits = n * 8};
+    return r->swaps ? get(r, 1) : 0;
 }
 
-static int well_formed(const uint8_t *bytes, size_t n)
+static struct reader opened(const uint8_t *bytes, size_t n, int swaps)
+{
+    return (struct reader){.bytes = bytes, .bits = n * 8, .swaps = swaps};
+}
+
+static int well_formed(const uint8_t *bytes, size_t n, int swaps)
 {
     if (n > SCRIPT_MOST)
         return 0;
-    struct reader r = opened(bytes, n);
+    struct reader r = opened(bytes, n, swaps);
     uint8_t x[8];
     for (unsigned left = get(&r, 16); left > 0 && !r.past; left--) {
         unsigned kind = get(&r, 2);
-        if (kind == 0)
+        if (kind == 0) {
             get_bytes(&r, x, get(&r, 2));
-        else if (kind == 3)
+        } else if (kind == 3) {
+            get_withdraws(&r);
             get_bytes(&r, x, 8);
+        }
     }
     if (r.past || r.bits - r.place >= 8)
         return 0;
@@ -380,7 +411,7 @@ static char *put_letter(char *to, char letter)
 static char *run(struct reader *r, struct bridge *b, char *to)
 {
     uint8_t x[8];
-    unsigned n;
+    unsigned n, withdraws;
     switch (get(r, 2)) {
     case 0:
         n = get(r, 2);
@@ -392,20 +423,23 @@ static char *run(struct reader *r, struct bridge *b, char *to)
         time_passes(b);
         return put_number(put_letter(to, 'T'), 0);
     default:
+        withdraws = get_withdraws(r);
         get_bytes(r, x, 8);
+        if (withdraws)
+            return put_number(put_letter(to, 'O'), withdraw(b, x));
         return put_number(put_letter(to, 'F'), fit(b, x));
     }
 }
 
-static size_t transcript(struct bridge *b, const uint8_t *bytes, size_t n, char *out)
+static size_t transcript(struct bridge *b, const uint8_t *bytes, size_t n, int swaps, char *out)
 {
     memset(b, 0, sizeof *b);
     device_reset(b);
-    if (!well_formed(bytes, n)) {
+    if (!well_formed(bytes, n, swaps)) {
         memcpy(out, "15\n", 3);
         return 3;
     }
-    struct reader r = opened(bytes, n);
+    struct reader r = opened(bytes, n, swaps);
     unsigned count = get(&r, 16);
     char *to = out;
     for (unsigned i = 1; i <= count; i++) {
@@ -473,15 +507,17 @@ static void put_length(size_t n)
         putchar((int)(n >> 8 * i & 255));
 }
 
-static void many(int probes)
+static void many(int transcripts, int probes, int swaps)
 {
     size_t n;
     while (get_length(&n)) {
         if (n > sizeof script || fread(script, 1, n, stdin) != n)
             exit(1);
-        size_t len = transcript(&bridge, script, n, out);
+        size_t len = transcript(&bridge, script, n, swaps, out);
+        if (!transcripts)
+            len = 0;
         if (probes)
-            len = probes_shown(&bridge, out);
+            len += probes_shown(&bridge, out + len);
         put_length(len);
         fwrite(out, 1, len, stdout);
     }
@@ -489,12 +525,16 @@ static void many(int probes)
 
 int main(int argc, char **argv)
 {
-    int probes = argc > 1 && strcmp(argv[1], "--probes") == 0;
-    if (probes || (argc > 1 && strcmp(argv[1], "--many") == 0)) {
-        many(probes);
+    const char *mode = argc > 1 ? argv[1] : "";
+    if (strcmp(mode, "--many") == 0) {
+        many(1, 0, 0);
+    } else if (strcmp(mode, "--probes") == 0) {
+        many(0, 1, 0);
+    } else if (strcmp(mode, "--swaps") == 0) {
+        many(1, 1, 1);
     } else {
         size_t n = fread(script, 1, sizeof script, stdin);
-        fwrite(out, 1, transcript(&bridge, script, n, out), stdout);
+        fwrite(out, 1, transcript(&bridge, script, n, 0, out), stdout);
     }
     return 0;
 }

@@ -9,6 +9,7 @@ use Rattle.bridge.proofs.Bridge.write.Reads as write
 use Rattle.bridge.proofs.Bridge.read.Reads as read
 use Rattle.bridge.proofs.Bridge.wait.Reads as wait
 use Rattle.bridge.proofs.Bridge.fit.Reads as fit
+use Rattle.bridge.proofs.Bridge.withdraw.Reads as withdraw
 
 pub one-power-on : OneAnswer power-on.Post
 one-power-on κ a x y s t p q = p ∙ sym q
@@ -27,4 +28,8 @@ one-write κ a x y s t p q =
 
 pub one-fit : OneAnswer fit.Post
 one-fit κ a x y s t p q =
+    ap₂ (λ (n : ℕ) (b : Bridge). record { number = n; bridge = b }) (p .0 ∙ sym (q .0)) (p .1 ∙ sym (q .1))
+
+pub one-withdraw : OneAnswer withdraw.Post
+one-withdraw κ a x y s t p q =
     ap₂ (λ (n : ℕ) (b : Bridge). record { number = n; bridge = b }) (p .0 ∙ sym (q .0)) (p .1 ∙ sym (q .1))

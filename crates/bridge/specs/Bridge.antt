@@ -1,13 +1,14 @@
--- The bridge (document 01, "The bridge" and "Numbers returned"): its registers, and the line beside them.
---   powerOn            the state at power-on
---   statusOf r         the status register
---   readOf b           what a read gives
---   accepted c x r     the registers after an accepted write of the code c and the parameter x
---   writeNumber x b    the number that a write of the bytes x gives
---   afterWrite x b     the state after that write
---   afterTime b        the state after time has passed
---   afterFitting x b   the state after fitting the ID of the bytes x
---   command x b        the state after the write x and time passing
+-- The bridge (document 01, "The bridge" and "Numbers returned", and document 02, R-3): its registers, and the line beside them.
+--   powerOn               the state at power-on
+--   statusOf r            the status register
+--   readOf b              what a read gives
+--   accepted c x r        the registers after an accepted write of the code c and the parameter x
+--   writeNumber x b       the number that a write of the bytes x gives
+--   afterWrite x b        the state after that write
+--   afterTime b           the state after time has passed
+--   afterFitting x b      the state after fitting the ID of the bytes x
+--   afterWithdrawal x b   the state after withdrawing it
+--   command x b           the state after the write x and time passing
 use Prim.Native.Nat.{ℕ, _+_, _*_, _/_, _%_}
 use mathlib.Core.Bool.{Bool, true, false, cond}
 use mathlib.Core.List.{List, [], _∷_}
@@ -16,6 +17,7 @@ use lib.ListN.{length, getD}
 use Rattle.probe.specs.Probe.{digit}
 use Rattle.line.specs.declared.Line.{Line}
 use Rattle.line.specs.Line.{bare, level, slot, slots, levels, resetAll, present, afterFit}
+use Rattle.withdrawal.specs.Withdrawal.{afterWithdraw}
 use Rattle.bridge.specs.declared.Pointer.{Pointer}
 use Rattle.bridge.specs.declared.Pointer.the-variants.{Status, ReadData, Configuration}
 use Rattle.bridge.specs.declared.Pending.{Pending}
@@ -225,7 +227,7 @@ finishedOf (Triplet d) b = finishedTriplet d b
 unfoldable pub afterTime : Bridge → Bridge
 afterTime b = finishedOf (b .registers .pending) b
 
--- ---- fitting, and a command given its time
+-- ---- fitting, withdrawing, and a command given its time
 
 -- The state with another line.
 abbrev pub onLine : Line → Bridge → Bridge
@@ -234,6 +236,10 @@ onLine l b = record { registers = b .registers; line = l }
 -- Fitting touches the line alone.
 unfoldable pub afterFitting : List ℕ → Bridge → Bridge
 afterFitting x b = onLine (afterFit x (b .line)) b
+
+-- Withdrawing too (document 02, R-3): status, pointer, configuration and what is pending stay.
+unfoldable pub afterWithdrawal : List ℕ → Bridge → Bridge
+afterWithdrawal x b = onLine (afterWithdraw x (b .line)) b
 
 unfoldable pub command : List ℕ → Bridge → Bridge
 command x b = afterTime (afterWrite x b)

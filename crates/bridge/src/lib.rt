@@ -15,7 +15,8 @@ ghost use mathlib.Core.Path.{_≡_};
 ghost use Prim.Native.Nat.{_*_, _≤_};
 ghost use Rattle.probe.specs.Probe.{digit};
 ghost use Rattle.line.specs.Line.{fitNumber};
-ghost use Rattle.bridge.specs.Bridge.{powerOn, statusOf, readOf, writeNumber, afterWrite, afterTime, afterFitting};
+ghost use Rattle.withdrawal.specs.Withdrawal.{withdrawNumber};
+ghost use Rattle.bridge.specs.Bridge.{powerOn, statusOf, readOf, writeNumber, afterWrite, afterTime, afterFitting, afterWithdrawal};
 
 // The refusals of a write, by their numbers in the table of document 01.
 pub const REFUSED_UNKNOWN: u8 = 5;
@@ -65,7 +66,7 @@ pub struct Bridge {
     pub line: Line,
 }
 
-// What a write or a fitting answers: its number, and the bridge afterwards.
+// What a write, a fitting or a withdrawal answers: its number, and the bridge afterwards.
 pub struct Answer {
     pub number: u8,
     pub bridge: Bridge,
@@ -193,6 +194,20 @@ impl Bridge {
         self.line = after;
         Answer {
             number: fitting.number,
+            bridge: self,
+        }
+    }
+    // A probe is withdrawn, whatever it was doing. A refused one leaves the bridge as it was. What is pending stays, and will find the line
+    // without the probe.
+    pub fn withdraw(mut self, id: &[u8; 8]) -> Answer
+        ensures { λ r. ⌜ (r .number ≡ withdrawNumber (now (id .entry)) (self .line)) × (r .bridge ≡ afterWithdrawal (now (id .entry)) self) ⌝ }
+    {
+        let before = self.line;
+        let withdrawal = withdrawal::withdraw(before, id);
+        let left = withdrawal.line;
+        self.line = left;
+        Answer {
+            number: withdrawal.number,
             bridge: self,
         }
     }

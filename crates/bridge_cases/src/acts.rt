@@ -2,6 +2,7 @@
 use crate::hex;
 use crate::say;
 use crate::show;
+use bridge::Answer;
 use bridge::Bridge;
 ghost use Prim.Native.Nat.{_<_, _≤_};
 ghost use lib.ListN.{length};
@@ -12,15 +13,19 @@ const B: [u8; 8] = [0x19, 0x02, 0, 0, 0, 0, 0, 0x59];
 
 const C: [u8; 8] = [0x02, 0x1C, 0xB8, 0x01, 0, 0, 0, 0xA2];
 
-fn write_bytes(bridge: Bridge, bytes: &[u8]) -> Bridge {
-    let answer = bridge.write(bytes);
-    say::text(b"write");
+// The bridge after a call, once the call's word, its bytes and the number that it gave are said.
+fn answered(word: &[u8], bytes: &[u8], answer: Answer) -> Bridge {
+    say::text(word);
     say::bytes(bytes);
     say::text(b": ");
     say::number(answer.number);
     say::end();
     let after = answer.bridge;
     after
+}
+
+fn write_bytes(bridge: Bridge, bytes: &[u8]) -> Bridge {
+    answered(b"write", bytes, bridge.write(bytes))
 }
 
 fn write(bridge: Bridge, text: &[u8]) -> Bridge {
@@ -42,20 +47,18 @@ fn wait(bridge: Bridge) -> Bridge {
 }
 
 fn fit(bridge: Bridge, id: &[u8; 8]) -> Bridge {
-    let answer = bridge.fit(id);
-    say::text(b"fit");
-    say::bytes(id);
-    say::text(b": ");
-    say::number(answer.number);
-    say::end();
-    let after = answer.bridge;
-    after
+    answered(b"fit", id, bridge.fit(id))
 }
 
-fn fit_given(bridge: Bridge, text: &[u8]) -> Bridge {
+fn withdraw(bridge: Bridge, id: &[u8; 8]) -> Bridge {
+    answered(b"withdraw", id, bridge.withdraw(id))
+}
+
+// The ID whose bytes are given.
+fn given_id(text: &[u8]) -> [u8; 8] {
     let mut bytes = [0u8; 16];
     hex::decode(text, &mut bytes);
-    let id = [
+    [
         bytes[0],
         bytes[1],
         bytes[2],
@@ -64,8 +67,17 @@ fn fit_given(bridge: Bridge, text: &[u8]) -> Bridge {
         bytes[5],
         bytes[6],
         bytes[7],
-    ];
+    ]
+}
+
+fn fit_given(bridge: Bridge, text: &[u8]) -> Bridge {
+    let id = given_id(text);
     fit(bridge, &id)
+}
+
+fn withdraw_given(bridge: Bridge, text: &[u8]) -> Bridge {
+    let id = given_id(text);
+    withdraw(bridge, &id)
 }
 
 fn send_byte(bridge: Bridge, byte: u8) -> Bridge {
@@ -151,6 +163,7 @@ fn act(bridge: Bridge, letter: u8, text: &[u8]) -> Bridge {
     match letter {
         b'w' => write(bridge, text),
         b'i' => fit_given(bridge, text),
+        b'o' => withdraw_given(bridge, text),
         b's' => send(bridge, text),
         b'r' => read(bridge),
         b't' => wait(bridge),

@@ -5,6 +5,7 @@
 //
 //     w   they are written to the bridge
 //     i   the probe of that ID is fitted;  a, b, c   the one of the ID A, B or C there
+//     o   the probe of that ID is taken off the line
 //     s   after a 1-Wire reset they go out on the line, each by Write Byte and with its time
 //     r   a read      t   time passes      p   the probes, as the fields of the line have them
 //     g   eight bytes come in from the line: Read Byte, its time, and what the read-data register holds

@@ -10,7 +10,8 @@ use mathlib.Core.Path.{_≡_, refl, sym, ap, ap₂, subst⁻¹, _∙_}
 use mathlib.Core.Bool.{_&&_}
 use mathlib.Core.List.{List, [], _∷_, _++_, append-nil}
 use denote.Ref.{RefT}
-use Prim.Native.Nat.{ℕ, suc, _+_, _*_, _/_, _%_, _<_, _≤_, min, max}
+use Prim.Native.Nat.{ℕ, zero, suc, _+_, _*_, _/_, _%_, _^_, _<_, _≤_, min, max}
+use native.Mathlib.Nat.{pow-suc}
 use native.Mathlib.Decide.{decLe}
 use native.Mathlib.Omega.{arith}
 use lib.Dec.{leb}
@@ -19,39 +20,42 @@ use lib.Seq.{take-at}
 use Rattle.identity.specs.Identity.{numberOf}
 use Rattle.probe.specs.Probe.{digit}
 use Rattle.line.specs.Line.{fitNumber}
+use Rattle.withdrawal.specs.Withdrawal.{withdrawNumber}
 use Rattle.bridge.specs.declared.Bridge.{Bridge}
-use Rattle.bridge.specs.Bridge.{afterFitting}
+use Rattle.bridge.specs.Bridge.{afterFitting, afterWithdrawal}
 use Rattle.bridge.specs.Reached.{Bytes, Reached}
-use Rattle.bridge.specs.Reached.Reached.{fit}
+use Rattle.bridge.specs.Reached.Reached.{fit, withdraw}
 use Rattle.search.specs.declared.Answer.{Answer}
 use Rattle.search.specs.declared.Answer.the-variants.{Listed}
 use Rattle.search.specs.Search.{answerOf, answerNumber, answerValues, bytesFrom, listOf, bufferOf, bridgeOf}
 use Rattle.search.proofs.search.Reads as search-fn
-use Rattle.search.proofs.Bytes.{length-listOf, listOf-append}
+use Rattle.search.proofs.Bytes.{length-listOf, length-bytesFrom, listOf-append}
 use Rattle.search.proofs.Call.{short, done}
 use Rattle.pass.specs.Passes.{search}
 use Rattle.enumeration.proofs.Order.{in-order-unique}
-use Rattle.demand.specs.Demand.{Outcome, Search, Done, bytesListed, idsAt, afterResume, Resumes, Meets}
+use Rattle.demand.specs.Demand.{Outcome, Search, Done, bytesListed, idsAt, afterResume, Resumes, ResumesNone, Meets}
 use Rattle.demand.specs.Contract.{Promised}
-use Rattle.demand.proofs.Reached.{reached-search}
-use Rattle.demand.proofs.Search.{order-of, order-is, listed-of, number-of, complete-when, passes-used, longer-by, kept-ids, resume-kept, resume-last, at-most, fitting-one}
+use Rattle.demand.proofs.Reached.{bytes-number, reached-search}
+use Rattle.demand.proofs.Search.{order-of, order-is, listed-of, number-of, complete-when, passes-used, longer-by, kept-ids, resume-kept, resume-last, none-last, listed-narrow, at-most, fitting-one, withdrawing-one}
 
 -- ---- bytes
 
--- each byte of a number of bytes is the byte that went into it
-bytes-number : (x : List ℕ) → Bytes x → bytesFrom (length x) (numberOf x) ≡ x
-unfolding bytesFrom numberOf
-bytes-number [] small = refl
-bytes-number (y ∷ ys) small =
-    let low : (y + 256 * numberOf ys) % 256 ≡ y = omega (arith, small 0) in
-    let high : (y + 256 * numberOf ys) / 256 ≡ numberOf ys = omega (arith, small 0) in
-    ap₂ (λ (v : ℕ) (l : List ℕ). v ∷ l) low
-    (ap (bytesFrom (length ys)) high ∙ bytes-number ys (λ k. small (suc k)))
+-- the bytes that are listed of one ID
+listed-alone : (i : ℕ) → listOf (i ∷ []) ≡ bytesFrom 8 i
+unfolding listOf
+listed-alone i = append-nil (bytesFrom 8 i)
 
 listed-bytes : (x : List ℕ) → Bytes x → length x ≡ 8 → listOf (numberOf x ∷ []) ≡ x
-unfolding listOf
 listed-bytes x small eight =
-    append-nil (bytesFrom 8 (numberOf x)) ∙ ap (λ (n : ℕ). bytesFrom n (numberOf x)) (sym eight) ∙ bytes-number x small
+    listed-alone (numberOf x) ∙ ap (λ (n : ℕ). bytesFrom n (numberOf x)) (sym eight) ∙ bytes-number x small
+
+-- the number of the low bytes of a number that has no others
+number-bytes : (n i : ℕ) → i < 256 ^ n → numberOf (bytesFrom n i) ≡ i
+unfolding bytesFrom numberOf
+number-bytes zero i h = omega arith
+number-bytes (suc n) i h =
+    let rest = number-bytes n (i / 256) (omega (arith, pow-suc 256 n)) in
+    ap (λ (k : ℕ). i % 256 + 256 * k) rest ∙ omega arith
 
 -- ---- the outcome, by the definitions
 
@@ -133,11 +137,36 @@ module _ (s : Bridge) (r : Reached s) where
         subst⁻¹ (Resumes (last .1)) (ap (λ (x : Outcome). x .bridge) (g .0) ∙ done b d s (g .1) .state) (last .3),
       )
 
+  -- the last one listed, as its bytes
+  none-of : (b : ℕ) (d : List ℕ) (o : Outcome) → Done Exactly s b d o → 0 < length (bytesListed o) → (p : List ℕ) × (x : List ℕ) × (bytesListed o ≡ p ++ x) × (length x ≡ 8) × (withdrawNumber x (o .bridge .line) ≡ 0) × ResumesNone (afterWithdrawal x (o .bridge))
+  none-of b d o g h =
+      let e = bytes-of b d o g in
+      let last = resume-last s r b (omega (arith, ap length e, length-listOf (search b s .ids))) in
+      let x = bytesFrom 8 (last .1) in
+      let back : numberOf x ≡ last .1 = number-bytes 8 (last .1) (listed-narrow s r b (last .0) (last .1) (last .2)) in
+      let none = none-last s r b (last .0) x (last .2 ∙ ap (λ (i : ℕ). last .0 ++ i ∷ []) (sym back)) in
+      let state = ap (λ (y : Outcome). y .bridge) (g .0) ∙ done b d s (g .1) .state in (
+        listOf (last .0),
+        x,
+        e ∙ ap listOf (last .2) ∙ listOf-append (last .0) (last .1 ∷ [])
+            ∙ ap (λ (l : List ℕ). listOf (last .0) ++ l) (listed-alone (last .1)),
+        length-bytesFrom 8 (last .1),
+        subst⁻¹ (λ (t : Bridge). withdrawNumber x (t .line) ≡ 0) state (none .0),
+        subst⁻¹ (λ (t : Bridge). ResumesNone (afterWithdrawal x t)) state (none .1),
+      )
+
   kept-of : (b : ℕ) (d : List ℕ) (o : Outcome) → Exactly s b d o → (idsAt (o .bridge) ≡ idsAt s) × (idsAt (afterResume (o .bridge)) ≡ idsAt s)
   unfolding search
   kept-of b d o g =
       after (λ (y : Bridge). (idsAt y ≡ idsAt s) × (idsAt (afterResume y) ≡ idsAt s)) b d o (refl, resume-kept s r 0)
       (kept-ids s r b, resume-kept s r b) g
+
+-- the bytes of an ID between those of others
+listed-between : (p t x : List ℕ) → Bytes x → length x ≡ 8 → listOf (p ++ numberOf x ∷ t) ≡ listOf p ++ (x ++ listOf t)
+listed-between p t x bytes eight =
+    listOf-append p (numberOf x ∷ t)
+    ∙ ap (λ (l : List ℕ). listOf p ++ l)
+    (listOf-append (numberOf x ∷ []) t ∙ ap (λ (l : List ℕ). l ++ listOf t) (listed-bytes x bytes eight))
 
 -- one probe more, whose bytes stand between those of the others
 fitting-of : (s : Bridge) → Reached s → (x : List ℕ) → Bytes x → length x ≡ 8 → fitNumber x (s .line) ≡ 0 → (b : ℕ) (d e : List ℕ) (o q : Outcome) → length (idsAt s) < b → Done Exactly s b d o → Done Exactly (afterFitting x s) b e q → (p : List ℕ) × (t : List ℕ) × (bytesListed q ≡ listOf p ++ (x ++ listOf t)) × (bytesListed o ≡ listOf p ++ listOf t)
@@ -147,10 +176,18 @@ fitting-of s r x bytes eight accepted b d e o q h g f =
       cut .1,
       bytes-of (afterFitting x s) (fit x bytes eight r) b e q f
           ∙ ap listOf (cut .2)
-          ∙ listOf-append (cut .0) (numberOf x ∷ cut .1)
-          ∙ ap (λ (l : List ℕ). listOf (cut .0) ++ l)
-          (listOf-append (numberOf x ∷ []) (cut .1) ∙ ap (λ (l : List ℕ). l ++ listOf (cut .1)) (listed-bytes x bytes eight)),
+          ∙ listed-between (cut .0) (cut .1) x bytes eight,
       bytes-of s r b d o g ∙ ap listOf (cut .3) ∙ listOf-append (cut .0) (cut .1),
+    )
+
+-- one probe less, whose bytes stood between those of the others
+withdrawing-of : (s : Bridge) → Reached s → (x : List ℕ) → Bytes x → length x ≡ 8 → withdrawNumber x (s .line) ≡ 0 → (b : ℕ) (d e : List ℕ) (o q : Outcome) → length (idsAt s) ≤ b → Done Exactly s b d o → Done Exactly (afterWithdrawal x s) b e q → (p : List ℕ) × (t : List ℕ) × (bytesListed o ≡ listOf p ++ (x ++ listOf t)) × (bytesListed q ≡ listOf p ++ listOf t)
+withdrawing-of s r x bytes eight accepted b d e o q h g f =
+    let cut = withdrawing-one s r x bytes eight accepted b h in (
+      cut .0,
+      cut .1,
+      bytes-of s r b d o g ∙ ap listOf (cut .2) ∙ listed-between (cut .0) (cut .1) x bytes eight,
+      bytes-of (afterWithdrawal x s) (withdraw x bytes eight r) b e q f ∙ ap listOf (cut .3) ∙ listOf-append (cut .0) (cut .1),
     )
 
 -- ---- the demand
@@ -170,7 +207,9 @@ exact s r =
       bytes = listed-bytes;
       longer = longer-of s r;
       fitting = fitting-of s r;
+      withdrawing = withdrawing-of s r;
       resume = resume-of s r;
+      resumeNone = none-of s r;
       reached = λ b d o g. after s r Reached b d o r (reached-search b r) g;
       kept = kept-of s r;
     }
@@ -196,7 +235,12 @@ fewer run other some sub meets s r =
           λ x bytes eight accepted b d e o q h g f.
           meets s r .fitting x bytes eight accepted b d e o q h (sub s r b d o (g .0), g .1)
           (sub (afterFitting x s) (fit x bytes eight r) b e q (f .0), f .1);
+      withdrawing =
+          λ x bytes eight accepted b d e o q h g f.
+          meets s r .withdrawing x bytes eight accepted b d e o q h (sub s r b d o (g .0), g .1)
+          (sub (afterWithdrawal x s) (withdraw x bytes eight r) b e q (f .0), f .1);
       resume = λ b d o g. meets s r .resume b d o (sub s r b d o (g .0), g .1);
+      resumeNone = λ b d o g. meets s r .resumeNone b d o (sub s r b d o (g .0), g .1);
       reached = λ b d o g. meets s r .reached b d o (sub s r b d o g);
       kept = λ b d o g. meets s r .kept b d o (sub s r b d o g);
     }

@@ -1,3 +1,5 @@
+pub mod Withdrawn
 pub mod Reached
 pub mod Search
 pub mod Demand
+pub mod Swaps

@@ -1,14 +1,17 @@
 -- What our search comes to from a state that calls reach, in the words of the demand.
 --   resumed-line     after a Resume exactly the probe that the last pass ended at is selected
+--   resume-none      with no marked probe on the line a Resume selects none
 --   order-of         the IDs on the line in search order
---   listed-of, number-of, complete-when, passes-used, longer-by, resume-last, fitting-one     the sentences of the demand, of `search`
+--   listed-of, number-of, complete-when, passes-used, longer-by, resume-last, none-last, fitting-one, withdrawing-one
+--                    the sentences of the demand, of `search`
 --   capped-at        more than 64 passes do what 64 do
 use mathlib.Core.Path.{_≡_, refl, sym, ap, subst, subst⁻¹, _∙_}
 use mathlib.Core.Bool.{Bool, true, false, cond, _&&_}
-use mathlib.Core.List.{List, [], _∷_, _++_, map, Memᴰ·of-map, Memᴰ·append-left, Memᴰ·append-right}
+use mathlib.Core.List.{List, [], _∷_, _++_, append-nil, map, Memᴰ·of-map, Memᴰ·append-left, Memᴰ·append-right}
 use mathlib.Core.List.List·Memᴰ.{List·Memᴰ·head}
 use Prim.Native.Nat.{ℕ, _^_, _<_, _≤_, min, max}
 use native.Mathlib.Omega.{arith}
+use borrow.Author.Tests.{ne-eqb, eqb-false}
 use lib.Dec.{eqb, leb}
 use lib.ListN.{length, take, drop, length-append, length-take, take-append-drop}
 use lib.Seq.{take-take, take-all}
@@ -18,16 +21,17 @@ use Rattle.probe.specs.declared.Probe.{Probe}
 use Rattle.probe.specs.Probe.{deafNew, obeyed, resumed}
 use Rattle.line.specs.declared.Line.{Line}
 use Rattle.line.specs.Line.{fitted, idOf, idsOf, fitNumber}
+use Rattle.withdrawal.specs.Withdrawal.{others, lineWith, without, withdrawNumber}
 use Rattle.bridge.specs.declared.Bridge.{Bridge}
 use Rattle.bridge.specs.declared.Pending.{Pending}
 use Rattle.bridge.specs.declared.Pending.the-variants.{Nothing, Reset}
-use Rattle.bridge.specs.Bridge.{isPending, pended, withRegisters, accepted, bytesOf, takenWhileBusy, goodParameter, writeNumber, afterWrite, finishedReset, finishedOf, afterTime, command, afterFitting}
+use Rattle.bridge.specs.Bridge.{isPending, pended, withRegisters, accepted, bytesOf, takenWhileBusy, goodParameter, writeNumber, afterWrite, finishedReset, finishedOf, afterTime, command, afterFitting, afterWithdrawal}
 use Rattle.bridge.specs.Reached.{Bytes, Reached}
-use Rattle.bridge.specs.Reached.Reached.{fit}
+use Rattle.bridge.specs.Reached.Reached.{fit, withdraw}
 use Rattle.pass.specs.Passes.{search}
 use Rattle.enumeration.specs.Order.{Among, Narrow, InOrder}
 use Rattle.enumeration.proofs.Tree.{begins, sorted}
-use Rattle.enumeration.proofs.Order.{in-order-more}
+use Rattle.enumeration.proofs.Order.{in-order-more, length-parted}
 use Rattle.enumeration.proofs.Leaves.{sorted-in-order, begins-whole}
 use Rattle.searching.proofs.Words.{Rest, lineOf, gathered, markedSelected, standing, Facts}
 use Rattle.searching.proofs.Words.Rest.{free}
@@ -36,7 +40,8 @@ use Rattle.searching.proofs.Holds.{obeyed-id, holds-command}
 use Rattle.searching.proofs.Pass.{commanded-line}
 use Rattle.searching.proofs.Facts.{search-facts, search-capped}
 use Rattle.demand.specs.Sound.{Sound}
-use Rattle.demand.specs.Demand.{idsAt, afterResume, Resumed, Resumes}
+use Rattle.demand.specs.Demand.{idsAt, afterResume, Resumed, Resumes, ResumesNone}
+use Rattle.demand.proofs.Withdrawn.{Withdrawn, withdrawn-of, withdrawn-fitted, withdrawn-line, withdrawn-when, others-among}
 use Rattle.demand.proofs.Reached.{Kept, holds-ids, holds-length, holds-fit, new-id, reached-kept, reached-sound}
 
 -- ---- lists
@@ -93,6 +98,38 @@ resume-accepted s e = ap (λ (p : Pending). cond {A = ℕ} (cond (isPending p) t
 reset-done : (s : Bridge) → s .registers .pending ≡ Nothing → command (0xB4 ∷ []) s .registers .pending ≡ Nothing
 unfolding command afterWrite accepted afterTime finishedOf finishedReset
 reset-done s e = ap (λ (n : ℕ). afterTime (cond (eqb n 0) (withRegisters (pended Reset (s .registers)) s) s) .registers .pending) (reset-accepted s e)
+
+-- a probe without a mark is deaf after a Resume
+pub unmarked-deaf : (q : Probe) → q .marked ≡ false → obeyed 0xA5 q .condition ≡ Deaf
+unfolding obeyed resumed
+unmarked-deaf q e = ap (λ (t : Bool). cond t Selected Deaf) e
+
+pub resume-none : (s : Bridge) (ps : List Probe) (rest : Rest) → s .line ≡ lineOf ps rest → s .registers .pending ≡ Nothing → ((q : Probe) → Among q ps → q .marked ≡ false) → ResumesNone s
+unfolding gathered
+resume-none s ps rest e idle unmarked =
+    record {
+      resetAccepted = reset-accepted s idle;
+      resumeAccepted = resume-accepted (command (0xB4 ∷ []) s) (reset-done s idle);
+      selectsNone =
+          λ p m.
+          let after = ap fitted (commanded-line s ps rest e idle 0xA5) ∙ fitted-lineOf (map (obeyed 0xA5) ps) rest in
+          let q = Memᴰ·of-map (obeyed 0xA5) ps (subst (Among p) after m) in
+          ap (λ (v : Probe). v .condition) (sym (q .2)) ∙ unmarked-deaf (q .0) (unmarked (q .0) (q .1));
+    }
+
+-- of the probes after a pass the one that it ended at has the mark alone
+standing-unmarked : (x i : ℕ) → i < 2 ^ 64 → eqb x i ≡ false → standing 64 x i .marked ≡ false
+unfolding standing
+standing-unmarked x i lt e =
+    ap (λ (t : Bool). cond t (markedSelected i) (deafNew i) .marked) (begins-whole x i lt ∙ ne-eqb i x (λ f. eqb-false x i e (sym f)))
+
+-- withdrawn from among them
+without-unmarked : (x : ℕ) (ids : List ℕ) → Narrow ids → (q : Probe) → Among q (others x (map (standing 64 x) ids)) → q .marked ≡ false
+without-unmarked x ids narrow q m =
+    let o = others-among x (map (standing 64 x) ids) m in
+    let j = Memᴰ·of-map (standing 64 x) ids (o .0) in
+    ap (λ (v : Probe). v .marked) (sym (j .2))
+    ∙ standing-unmarked x (j .0) (narrow (j .0) (j .1)) (ap (eqb x) (sym (id-standing 64 x (j .0)) ∙ ap idOf (j .2)) ∙ o .1)
 
 -- ---- the search, from a state that calls reach
 
@@ -155,6 +192,9 @@ module _ (s : Bridge) (r : Reached s) where
       (Memᴰ·append-left (drop b order-of)
       (subst (Among x) (sym e ∙ found b .listed) (Memᴰ·append-right p (List·Memᴰ·head refl)))))
 
+  pub listed-narrow : (b : ℕ) (p : List ℕ) (x : ℕ) → search b s .ids ≡ p ++ x ∷ [] → x < 2 ^ 64
+  listed-narrow b p x e = stock .narrow x (subst (Among x) ids-at (listed-there b p x e))
+
   resumed-last : (b : ℕ) (p : List ℕ) (x : ℕ) → search b s .ids ≡ p ++ x ∷ [] → Resumed x (afterResume (search b s .bridge) .line)
   unfolding gathered
   resumed-last b p x e =
@@ -177,7 +217,24 @@ module _ (s : Bridge) (r : Reached s) where
         },
       )
 
-  sound : Sound (s .line)
+  -- the last one listed is there to be withdrawn, and the mark goes with it
+  pub none-last : (b : ℕ) (p x : List ℕ) → search b s .ids ≡ p ++ numberOf x ∷ [] → (withdrawNumber x (search b s .bridge .line) ≡ 0) × ResumesNone (afterWithdrawal x (search b s .bridge))
+  unfolding afterWithdrawal without lineWith
+  none-last b p x e =
+      let t = search b s .bridge in
+      let i = numberOf x in
+      let c = found b .closing p i e in
+      let there = withdrawn-when x (t .line) (subst⁻¹ (Among i) (kept-ids b) (listed-there b p i e)) in
+      let left =
+      withdrawn-line x (t .line) there
+      ∙ ap (λ (ps : List Probe). lineWith (others i ps))
+      (ap fitted (c .0) ∙ fitted-lineOf (map (standing 64 i) (stock .ids)) (free (stock .entries))) in (
+        there,
+        resume-none (afterWithdrawal x t) (others i (map (standing 64 i) (stock .ids))) (free _) left (c .1)
+            (without-unmarked i (stock .ids) (stock .narrow)),
+      )
+
+  pub sound : Sound (s .line)
   sound = reached-sound r
 
   pub at-most : length (idsAt s) ≤ 64
@@ -201,10 +258,12 @@ ids-more s r x e =
 pub fitting-one : (s : Bridge) → Reached s → (x : List ℕ) → Bytes x → length x ≡ 8 → fitNumber x (s .line) ≡ 0 → (b : ℕ) → length (idsAt s) < b → (p : List ℕ) × (q : List ℕ) × (search b (afterFitting x s) .ids ≡ p ++ numberOf x ∷ q) × (search b s .ids ≡ p ++ q)
 fitting-one s r x bytes eight e b h =
     let after = fit x bytes eight r in
+    let ids = sym (append-nil (idsAt s)) in
+    let new : Among (numberOf x) (idsAt s) → ⊥ = λ y. new-id x (stock s r .holds) e (subst (Among (numberOf x)) (ids-at s r) y) in
     let cut =
-    in-order-more (numberOf x) (λ y. new-id x (stock s r .holds) e (subst (Among (numberOf x)) (ids-at s r) y))
-    (order-is s r)
-    (subst (λ (ids : List ℕ). InOrder ids (order-of (afterFitting x s) after)) (ids-more s r x e)
+    in-order-more (numberOf x) (idsAt s) [] (subst (λ (l : List ℕ). Among (numberOf x) l → ⊥) ids new)
+    (subst (λ (l : List ℕ). InOrder l (order-of s r)) ids (order-is s r))
+    (subst (λ (l : List ℕ). InOrder l (order-of (afterFitting x s) after)) (ids-more s r x e)
     (order-is (afterFitting x s) after)) in (
       cut .0,
       cut .1,
@@ -212,4 +271,32 @@ fitting-one s r x bytes eight e b h =
           (omega (arith, ap length (ids-more s r x e), length-append (idsAt s) (numberOf x ∷ [])))
           ∙ cut .2,
       listed-whole s r b (omega arith) ∙ cut .3,
+    )
+
+-- ---- one probe less
+
+-- where the probe stood among the others
+pub parted-at : (s : Bridge) → Reached s → (x : List ℕ) → withdrawNumber x (s .line) ≡ 0 → Withdrawn (numberOf x) (s .line)
+parted-at s r x e = withdrawn-of (numberOf x) (s .line) (sound s r .distinct) (withdrawn-fitted x (s .line) e)
+
+pub ids-fewer : (s : Bridge) (r : Reached s) (x : List ℕ) (e : withdrawNumber x (s .line) ≡ 0) → idsAt (afterWithdrawal x s) ≡ parted-at s r x e .front ++ parted-at s r x e .back
+unfolding afterWithdrawal
+ids-fewer s r x e = ap idsOf (withdrawn-line x (s .line) e) ∙ parted-at s r x e .after
+
+pub withdrawing-one : (s : Bridge) → Reached s → (x : List ℕ) → Bytes x → length x ≡ 8 → withdrawNumber x (s .line) ≡ 0 → (b : ℕ) → length (idsAt s) ≤ b → (p : List ℕ) × (q : List ℕ) × (search b s .ids ≡ p ++ numberOf x ∷ q) × (search b (afterWithdrawal x s) .ids ≡ p ++ q)
+withdrawing-one s r x bytes eight e b h =
+    let after = withdraw x bytes eight r in
+    let w = parted-at s r x e in
+    let cut =
+    in-order-more (numberOf x) (w .front) (w .back) (w .gone)
+    (subst (λ (l : List ℕ). InOrder l (order-of (afterWithdrawal x s) after)) (ids-fewer s r x e)
+    (order-is (afterWithdrawal x s) after))
+    (subst (λ (l : List ℕ). InOrder l (order-of s r)) (w .before) (order-is s r)) in (
+      cut .0,
+      cut .1,
+      listed-whole s r b h ∙ cut .2,
+      listed-whole (afterWithdrawal x s) after b
+          (omega
+          (arith, ap length (ids-fewer s r x e), ap length (w .before), length-parted (numberOf x) (w .front) (w .back)))
+          ∙ cut .3,
     )

@@ -1,5 +1,5 @@
--- What is asked of a search: the third demand of the request, said of any search, over the definitions of the bridge, of the answer and of
--- search order alone.
+-- What is asked of a search: the third demand of the request, with what document 02, R-3, adds to it, said of any search, over the
+-- definitions of the bridge, of the answer and of search order alone.
 --   Outcome            what a search gives back: its answer, and the bridge and the list buffer afterwards
 --   Search             a search: which outcomes it may have, from a state, with an allowance and with a list buffer
 --   Done run s b d o   o is such an outcome, and the list buffer d has room for 8 × the smaller of b and 64 bytes
@@ -8,6 +8,7 @@
 --   afterResume s      s after a 1-Wire Reset and a Resume, each given its time
 --   Resumed x l        of the probes of the line l the one with the ID x is selected, and all others are deaf
 --   Resumes x s        from the state s on a 1-Wire Reset and a Resume are accepted, and lead there
+--   ResumesNone s      from the state s on both are accepted, and lead to a line on which every probe is deaf
 --   Demand run s       what has to hold of every search `run` from the state s on
 --   Meets run          the demand, of every state that calls reach
 use Prim.Native.Nat.{ℕ, _*_, _≤_, _<_, min, max}
@@ -22,8 +23,9 @@ use Rattle.probe.specs.declared.Probe.{Probe}
 use Rattle.probe.specs.Probe.{digit}
 use Rattle.line.specs.declared.Line.{Line}
 use Rattle.line.specs.Line.{fitted, idsOf, fitNumber}
+use Rattle.withdrawal.specs.Withdrawal.{withdrawNumber}
 use Rattle.bridge.specs.declared.Bridge.{Bridge}
-use Rattle.bridge.specs.Bridge.{writeNumber, command, afterFitting}
+use Rattle.bridge.specs.Bridge.{writeNumber, command, afterFitting, afterWithdrawal}
 use Rattle.bridge.specs.Reached.{Bytes, Reached}
 use Rattle.search.specs.declared.Answer.{Answer}
 use Rattle.search.specs.Search.{answerNumber, answerValues, listOf}
@@ -59,7 +61,12 @@ pub record Resumes (x : ℕ) (s : Bridge) : Type 0 where
   pub resumeAccepted : writeNumber (0xA5 ∷ 0xA5 ∷ []) (command (0xB4 ∷ []) s) ≡ 0
   pub selects : Resumed x (afterResume s .line)
 
--- n is the number of IDs on the line.
+pub record ResumesNone (s : Bridge) : Type 0 where
+  pub resetAccepted : writeNumber (0xB4 ∷ []) s ≡ 0
+  pub resumeAccepted : writeNumber (0xA5 ∷ 0xA5 ∷ []) (command (0xB4 ∷ []) s) ≡ 0
+  pub selectsNone : (p : Probe) → Among p (fitted (afterResume s .line)) → p .condition ≡ Deaf
+
+-- n is the number of IDs on the line: of the probes that are fitted now.
 pub record Demand (run : Search) (s : Bridge) : Type 0 where
   -- At most 64 probes.
   pub atMost : length (idsAt s) ≤ 64
@@ -84,8 +91,12 @@ pub record Demand (run : Search) (s : Bridge) : Type 0 where
   pub longer : (b c : ℕ) (d e : List ℕ) (o q : Outcome) → b ≤ c → Done run s b d o → Done run s c e q → (r : List ℕ) × (bytesListed q ≡ bytesListed o ++ r)
   -- Fitting one more probe leaves all others in their order in the complete list.
   pub fitting : (x : List ℕ) → Bytes x → length x ≡ 8 → fitNumber x (s .line) ≡ 0 → (b : ℕ) (d e : List ℕ) (o q : Outcome) → length (idsAt s) < b → Done run s b d o → Done run (afterFitting x s) b e q → (p : List ℕ) × (r : List ℕ) × (bytesListed q ≡ listOf p ++ (x ++ listOf r)) × (bytesListed o ≡ listOf p ++ listOf r)
+  -- Withdrawing one probe leaves all others in their order in the complete list.
+  pub withdrawing : (x : List ℕ) → Bytes x → length x ≡ 8 → withdrawNumber x (s .line) ≡ 0 → (b : ℕ) (d e : List ℕ) (o q : Outcome) → length (idsAt s) ≤ b → Done run s b d o → Done run (afterWithdrawal x s) b e q → (p : List ℕ) × (r : List ℕ) × (bytesListed o ≡ listOf p ++ (x ++ listOf r)) × (bytesListed q ≡ listOf p ++ listOf r)
   -- If anything was listed, a 1-Wire reset and then Resume select only the last one listed.
   pub resume : (b : ℕ) (d : List ℕ) (o : Outcome) → Done run s b d o → 0 < length (bytesListed o) → (p : List ℕ) × (x : ℕ) × (bytesListed o ≡ listOf (p ++ x ∷ [])) × Resumes x (o .bridge)
+  -- If the last one listed, whose bytes are the last eight, is withdrawn directly after the search, they select none.
+  pub resumeNone : (b : ℕ) (d : List ℕ) (o : Outcome) → Done run s b d o → 0 < length (bytesListed o) → (p : List ℕ) × (x : List ℕ) × (bytesListed o ≡ p ++ x) × (length x ≡ 8) × (withdrawNumber x (o .bridge .line) ≡ 0) × ResumesNone (afterWithdrawal x (o .bridge))
   -- The state afterwards is one that calls reach, with the same probes on the line; and so after the Resume.
   pub reached : (b : ℕ) (d : List ℕ) (o : Outcome) → run s b d o → Reached (o .bridge)
   pub kept : (b : ℕ) (d : List ℕ) (o : Outcome) → run s b d o → (idsAt (o .bridge) ≡ idsAt s) × (idsAt (afterResume (o .bridge)) ≡ idsAt s)

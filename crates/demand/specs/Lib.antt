@@ -1,3 +1,4 @@
 pub mod Sound
 pub mod Demand
 pub mod Contract
+pub mod Swaps

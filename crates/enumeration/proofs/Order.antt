@@ -1,15 +1,18 @@
--- Search order is strict, so that there is one list in order at most; and one ID more leaves the others where they are.
+-- Search order is strict, so that there is one list in order at most; and one ID more, or less, leaves the others where they are.
 --   before-irrefl, before-trans      no ID comes before itself; what comes before comes before all behind
 --   in-order-unique                  two lists of the same IDs in order are one list
---   in-order-more                    a new ID stands somewhere in the list, and all others as they stood without it
+--   in-order-more                    an ID stands somewhere in the list, and all others as they stand without it
+--   parted, widen, narrow            a member stands between two parts; what stands in them without it, and with it
+--   length-parted                    with it they are one more
 use mathlib.Core.Path.{_≡_, refl, sym, ap, ap₂, subst, subst⁻¹, _∙_}
 use mathlib.Core.Bool.{true≢false}
-use mathlib.Core.List.{List, [], _∷_, _++_, List·Memᴰ·cases-cons, List·Memᴰ·not-nil, List·Memᴰ·eq-of-singleton, List·Memᴰ·append-cases, Memᴰ·append-left, Memᴰ·append-right, Memᴰ·cast}
+use mathlib.Core.List.{List, [], _∷_, _++_, List·Memᴰ·cases-cons, List·Memᴰ·not-nil, List·Memᴰ·append-cases, Memᴰ·append-left, Memᴰ·append-right, Memᴰ·cast}
 use mathlib.Core.List.List·Memᴰ.{List·Memᴰ·head, List·Memᴰ·tail}
 use mathlib.Core.Logic.{_⊎_, inl, inr, ⊎-elim}
-use Prim.Native.Nat.{ℕ, _<_}
+use Prim.Native.Nat.{ℕ, suc, _<_}
 use native.Mathlib.Decide.{decLt}
 use native.Mathlib.Omega.{arith}
+use lib.ListN.{length, length-append}
 use Rattle.identity.specs.Identity.{bitOf}
 use Rattle.enumeration.specs.Order.{Before, Among, Rising, InOrder}
 
@@ -74,7 +77,7 @@ pub in-order-unique : {ids l m : List ℕ} → InOrder ids l → InOrder ids m �
 in-order-unique {ids} {l} {m} a b =
     rising-unique l m (a .rising) (b .rising) (λ i x. b .all i (a .only i x)) (λ i x. a .all i (b .only i x))
 
--- ---- one ID more
+-- ---- one ID more, or less
 
 -- a member stands between what is before it and what is behind it
 pub parted : {i : ℕ} {l : List ℕ} → Among i l → (p : List ℕ) × (q : List ℕ) × (l ≡ p ++ i ∷ q)
@@ -84,11 +87,11 @@ parted (List·Memᴰ·tail {x = x} m) =
     (x ∷ r .0, r .1, ap {B = List ℕ} (λ (y : List ℕ). x ∷ y) (r .2))
 
 -- more stands in the longer list
-widen : {j : ℕ} (i : ℕ) (p q : List ℕ) → Among j (p ++ q) → Among j (p ++ i ∷ q)
+pub widen : {j : ℕ} (i : ℕ) (p q : List ℕ) → Among j (p ++ q) → Among j (p ++ i ∷ q)
 widen i p q m =
     ⊎-elim (λ x. Memᴰ·append-left (i ∷ q) x) (λ x. Memᴰ·append-right p (List·Memᴰ·tail x)) (List·Memᴰ·append-cases p m)
 
-narrow : {j : ℕ} (i : ℕ) (p q : List ℕ) → Among j (p ++ i ∷ q) → (j ≡ i) ⊎ Among j (p ++ q)
+pub narrow : {j : ℕ} (i : ℕ) (p q : List ℕ) → Among j (p ++ i ∷ q) → (j ≡ i) ⊎ Among j (p ++ q)
 narrow {j} i p q m = ⊎-elim (λ x. inr (Memᴰ·append-left q x)) (λ x. behind (List·Memᴰ·cases-cons x)) (List·Memᴰ·append-cases p m)
   where
     behind : (j ≡ i) ⊎ Among j q → (j ≡ i) ⊎ Among j (p ++ q)
@@ -107,12 +110,15 @@ alone i (x ∷ p) q r m =
     (λ e. before-irrefl i (subst (λ (y : ℕ). Before y i) (sym e) (r .0 i (Memᴰ·append-right p (List·Memᴰ·head refl)))))
     (λ y. alone i p q (r .1) y) (List·Memᴰ·cases-cons m)
 
--- the list with the new ID, and the list without it
-pub in-order-more : {ids l m : List ℕ} (i : ℕ) → (Among i ids → ⊥) → InOrder ids l → InOrder (ids ++ i ∷ []) m → (p : List ℕ) × (q : List ℕ) × (m ≡ p ++ i ∷ q) × (l ≡ p ++ q)
-in-order-more {ids} {l} {m} i new a b = (p, q, place, rising-unique l (p ++ q) (a .rising) (struck i p q r) into from)
+pub length-parted : (i : ℕ) (p q : List ℕ) → length (p ++ i ∷ q) ≡ suc (length (p ++ q))
+length-parted i p q = omega (arith, length-append p (i ∷ q), length-append p q)
+
+-- the list with the ID, and the list without it
+pub in-order-more : {l m : List ℕ} (i : ℕ) (s t : List ℕ) → (Among i (s ++ t) → ⊥) → InOrder (s ++ t) l → InOrder (s ++ i ∷ t) m → (p : List ℕ) × (q : List ℕ) × (m ≡ p ++ i ∷ q) × (l ≡ p ++ q)
+in-order-more {l} {m} i s t new a b = (p, q, place, rising-unique l (p ++ q) (a .rising) (struck i p q r) into from)
   where
     cut : (p : List ℕ) × (q : List ℕ) × (m ≡ p ++ i ∷ q)
-    cut = parted (b .all i (Memᴰ·append-right ids (List·Memᴰ·head refl)))
+    cut = parted (b .all i (Memᴰ·append-right s (List·Memᴰ·head refl)))
 
     p : List ℕ
     p = cut .0
@@ -129,9 +135,9 @@ in-order-more {ids} {l} {m} i new a b = (p, q, place, rising-unique l (p ++ q) (
     into : (j : ℕ) → Among j l → Among j (p ++ q)
     into j x =
         ⊎-elim (λ e. absurd (new (Memᴰ·cast (sym e) (a .only j x)))) (λ y. y)
-        (narrow i p q (subst (Among j) place (b .all j (Memᴰ·append-left (i ∷ []) (a .only j x)))))
+        (narrow i p q (subst (Among j) place (b .all j (widen i s t (a .only j x)))))
 
     from : (j : ℕ) → Among j (p ++ q) → Among j l
     from j x =
-        ⊎-elim (λ y. a .all j y) (λ y. absurd (alone i p q r (Memᴰ·cast (sym (List·Memᴰ·eq-of-singleton y)) x)))
-        (List·Memᴰ·append-cases ids (b .only j (subst⁻¹ (Among j) place (widen i p q x))))
+        ⊎-elim (λ e. absurd (alone i p q r (Memᴰ·cast (sym e) x))) (λ y. a .all j y)
+        (narrow i s t (b .only j (subst⁻¹ (Among j) place (widen i p q x))))

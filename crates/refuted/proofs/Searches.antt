@@ -1,6 +1,6 @@
 -- The wrong searches, each against the demand on a line of A, of C, of A and C, or of A, B and C.
 --   ours             the search itself meets the demand by the same frame
---   resumed-one      a Resume selects one probe: two that are said to be the one are the same
+--   resumed-one      a Resume selects one probe: two that are said to be the one are the same; resumed-some, it selects one
 use Prim.Native.Nat.{ℕ, zero, suc, _+_, _*_, _%_, _≤_, _<_, min, max}
 use mathlib.Core.Bool.{Bool, true, false, cond, _&&_, false≢true}
 use mathlib.Core.List.{List, [], _∷_, _++_, List·Memᴰ·not-nil, Memᴰ·of-map}
@@ -32,10 +32,10 @@ use Rattle.search.specs.declared.Answer.the-variants.{Refused}
 use Rattle.search.specs.Search.{listed, answerValues, bytesFrom, listOf, written}
 use Rattle.search.proofs.Call.{short, done}
 use Rattle.search.proofs.Bytes.{listOf-append}
-use Rattle.enumeration.specs.Order.{InOrder}
+use Rattle.enumeration.specs.Order.{Among, InOrder}
 use Rattle.paper.specs.Paper.{a, b, c, withOne}
 use Rattle.paper.proofs.Paper.{paper}
-use Rattle.demand.specs.Demand.{Outcome, Search, Done, bytesListed, idsAt, Resumed, Meets}
+use Rattle.demand.specs.Demand.{Outcome, Search, Done, bytesListed, idsAt, Resumed, ResumesNone, Meets}
 use Rattle.demand.proofs.Demand.{outcome, outcome-path, Exactly, exact, fewer}
 use Rattle.refuted.specs.Versions.{outcomeWith, callOf, alwaysRefuses, fixedList, firstPassOnly, passesOf, passesAsListed, inserted, ascending, sortedAsNumbers, tripledBy, walkedBy, searchedBy, searchBy, notesOne, onceMore, startsAgain}
 
@@ -95,7 +95,7 @@ rules (suc n) s = searched-by (suc n) 0 Nowhere (command (0xF0 ∷ []) s)
 
 -- ---- the lines
 
-below : (x : List ℕ) → all (λ (v : ℕ). ltb v 256) x ≡ true → Bytes x
+pub below : (x : List ℕ) → all (λ (v : ℕ). ltb v 256) x ≡ true → Bytes x
 unfolding all
 below [] e k = lit< tt
 below (y ∷ x) e k = go (ltb y 256) refl (below x) e k
@@ -261,6 +261,26 @@ line-left meets =
     let second : 0x19 ≡ filled .1 % 256 = ap (λ (v : List ℕ). getD v 8 0) (sym listed) ∙ last-byte (filled .0) (filled .1) 1 _ (filled .2) (ap length listed) in
     let one : 0x02 ≡ walked .1 % 256 = ap (λ (v : List ℕ). getD v 0 0) (sym first) ∙ last-byte (walked .0) (walked .1) 0 _ (walked .2) (ap length first) in
     omega arith
+
+-- ---- a probe that is not withdrawn: Resume selects the last one listed
+
+resumed-some : (x : ℕ) (l : Line) → Resumed x l → ((p : Probe) → Among p (fitted l) → p .condition ≡ Deaf) → ⊥
+unfolding idsOf
+resumed-some x l p none =
+    let v = Memᴰ·of-map idOf (fitted l) (p .there) in
+    let differ : Selected ≡ Deaf =
+    sym (p .only (v .0) (v .1) ∙ ap (λ (t : Bool). cond t Selected Deaf) (eq-eqb (v .0 .id) x (v .2))) ∙ none (v .0) (v .1) in
+    let z : _≡_ {A = ℕ} 0 1 = cc in
+    omega arith
+
+pub probe-stays : ((s : Bridge) → Reached s → (n : ℕ) (d : List ℕ) (o : Outcome) → Done (callOf search) s n d o → 0 < length (bytesListed o) → ResumesNone (o .bridge)) → ⊥
+unfolding outcomeWith listOf bytesFrom numberOf
+probe-stays h =
+    let q = outcomeWith search three 1 (room 1) in
+    let first = bytes-due (callOf search) ours 1 (room 1) q (refl, lit≤ tt) in
+    let some : 0 < length (bytesListed q) = omega (arith, ap length first) in
+    let walked = ours three three-reached .resume 1 (room 1) q (refl, lit≤ tt) some in
+    resumed-some (walked .1) _ (walked .3 .selects) (h three three-reached 1 (room 1) q (refl, lit≤ tt) some .selectsNone)
 
 -- ---- nor is its closing state that of the commands
 

@@ -3,17 +3,22 @@ use Prim.Native.Nat.{ℕ, suc, _<_}
 use mathlib.Core.Bool.{Bool, true, false}
 use mathlib.Core.List.{List, [], _∷_}
 use mathlib.Core.Path.{_≡_}
+use lib.ListN.{length}
+use Rattle.identity.specs.Identity.{numberOf}
+use Rattle.probe.specs.declared.Probe.{Probe}
+use Rattle.withdrawal.specs.Withdrawal.{withdrawNumber}
 use Rattle.bridge.specs.declared.Bridge.{Bridge}
 use Rattle.bridge.specs.declared.Pending.the-variants.{Reset, Triplet}
 use Rattle.bridge.specs.declared.Pointer.the-variants.{Status}
-use Rattle.bridge.specs.Bridge.{readOf, writeNumber, afterWrite, afterTime, command, finishedTriplet, chosen}
+use Rattle.bridge.specs.Bridge.{readOf, writeNumber, afterWrite, afterTime, afterFitting, afterWithdrawal, command, finishedTriplet, chosen}
 use Rattle.bridge.specs.Reached.{Bytes, Reached}
 use Rattle.pass.specs.Pass.{noted}
 use Rattle.pass.specs.Passes.{search}
 use Rattle.packet.specs.Request.{Request, packetOf}
 use Rattle.reading.specs.declared.Reading.the-variants.{Refused}
 use Rattle.reading.specs.Reading.{readingOf}
-use Rattle.demand.specs.Demand.{Meets}
+use Rattle.demand.specs.Demand.{Outcome, Done, bytesListed, ResumesNone, Meets}
+use Rattle.demand.specs.Swaps.{fittedAt}
 use Rattle.enumeration.specs.Order.{Among}
 use Rattle.levels.specs.Levels.{Pass, afterTriplet, bothOne, passesTaken}
 use Rattle.refuted.specs.Versions.{callOf, alwaysRefuses, fixedList, firstPassOnly, passesOf, passesAsListed, sortedAsNumbers, searchBy, notesOne, startsAgain, clearsRst, zeroAfterOnes, tripletBy, uninverted}
@@ -56,3 +61,7 @@ pub record Refuted : Type 0 where
   -- presence, in one outside a search.
   pub presenceNeeded : ((s : Bridge) → Reached s → (b : ℕ) (p : Pass) → Among p (passesTaken b s) → (k : ℕ) → k < 64 → bothOne (afterTriplet k p) ≡ false) → ⊥
   pub searchNeeded : ((s : Bridge) → Reached s → s .registers .status .ppd ≡ true → bothOne (command (0x78 ∷ 0 ∷ []) s) ≡ false) → ⊥
+  -- Document 02, R-3, of the last one listed: a withdrawal that leaves its probe on the line, so that Resume still selects it. And of
+  -- withdrawing and fitting again: a new probe with the mark of the old one.
+  pub probeStays : ((s : Bridge) → Reached s → (b : ℕ) (d : List ℕ) (o : Outcome) → Done (callOf search) s b d o → 0 < length (bytesListed o) → ResumesNone (o .bridge)) → ⊥
+  pub markKept : ((s : Bridge) → Reached s → (x : List ℕ) → Bytes x → length x ≡ 8 → withdrawNumber x (s .line) ≡ 0 → (p q : Probe) → Among p (fittedAt s) → p .id ≡ numberOf x → Among q (fittedAt (afterFitting x (afterWithdrawal x s))) → q .id ≡ numberOf x → q .marked ≡ p .marked) → ⊥

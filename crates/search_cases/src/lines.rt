@@ -2,8 +2,17 @@
 use crate::probes;
 use bridge::Bridge;
 
-fn with(bridge: Bridge, id: &[u8; 8]) -> Bridge {
+pub(crate) fn with(bridge: Bridge, id: &[u8; 8]) -> Bridge {
     bridge.fit(id).bridge
+}
+
+pub(crate) fn without(bridge: Bridge, id: &[u8; 8]) -> Bridge {
+    bridge.withdraw(id).bridge
+}
+
+// Withdrawn and fitted again.
+pub(crate) fn with_again(bridge: Bridge, id: &[u8; 8]) -> Bridge {
+    with(without(bridge, id), id)
 }
 
 pub(crate) fn of_two(first: &[u8; 8], second: &[u8; 8]) -> Bridge {
@@ -14,9 +23,14 @@ pub(crate) fn of_three(first: &[u8; 8], second: &[u8; 8], third: &[u8; 8]) -> Br
     with(of_two(first, second), third)
 }
 
-fn with_numbered(bridge: Bridge, n: u8) -> Bridge {
+pub(crate) fn with_numbered(bridge: Bridge, n: u8) -> Bridge {
     let id = probes::numbered(n);
     with(bridge, &id)
+}
+
+pub(crate) fn without_numbered(bridge: Bridge, n: u8) -> Bridge {
+    let id = probes::numbered(n);
+    without(bridge, &id)
 }
 
 pub(crate) fn of_64() -> Bridge {
