@@ -19,6 +19,7 @@ use Rattle.probe.specs.Probe.{deafNew, obeyed}
 use Rattle.line.specs.declared.Line.{Line}
 use Rattle.line.specs.Line.{any, bare, fitted, idOf, idsOf, isFitted, placeNumber, fitNumber}
 use Rattle.withdrawal.specs.Withdrawal.{lineWith, without, withdrawNumber, afterWithdraw}
+use Rattle.withdrawal.proofs.Others.{not-fitted}
 use Rattle.bridge.specs.declared.Bridge.{Bridge}
 use Rattle.bridge.specs.declared.Pending.the-variants.{Nothing}
 use Rattle.bridge.specs.Bridge.{afterFitting, afterWithdrawal, onLine}
@@ -48,8 +49,7 @@ not-there i l n = go (any (eqb i) (idsOf l)) refl
     go false e = refl
 
 refused-20 : (x : List ℕ) (l : Line) → (Among (numberOf x) (idsOf l) → ⊥) → withdrawNumber x l ≡ 20
-unfolding withdrawNumber
-refused-20 x l n = ap (λ (t : Bool). cond t 0 20) (not-there (numberOf x) l n)
+refused-20 x l n = sym (not-fitted x l (not-there (numberOf x) l n) .0)
 
 refused-kept : (x : List ℕ) (s : Bridge) → (withdrawNumber x (s .line) ≡ 0 → ⊥) → afterWithdrawal x s ≡ s
 unfolding afterWithdrawal afterWithdraw

@@ -21,6 +21,7 @@ use Rattle.probe.specs.declared.Probe.{Probe}
 use Rattle.line.specs.declared.Line.{Line}
 use Rattle.line.specs.Line.{any, fitted, idOf, idsOf, isFitted}
 use Rattle.withdrawal.specs.Withdrawal.{others, lineWith, without, withdrawNumber, afterWithdraw}
+use Rattle.withdrawal.proofs.Others.{withdrawn}
 use Rattle.enumeration.specs.Order.{Among, Distinct}
 use Rattle.demand.specs.Swaps.{Gone}
 use Rattle.enumeration.proofs.Order.{widen}
@@ -157,8 +158,7 @@ withdrawn-fitted x l = go (isFitted (numberOf x) l)
     go false e = absurd (omega arith)
 
 pub withdrawn-line : (x : List ℕ) (l : Line) → withdrawNumber x l ≡ 0 → afterWithdraw x l ≡ without (numberOf x) l
-unfolding afterWithdraw
-withdrawn-line x l e = ap (λ (n : ℕ). cond (eqb n 0) (without (numberOf x) l) l) e
+withdrawn-line x l e = sym (withdrawn x l (withdrawn-fitted x l e) .1)
 
 pub withdrawn-when : (x : List ℕ) (l : Line) → Among (numberOf x) (idsOf l) → withdrawNumber x l ≡ 0
 unfolding withdrawNumber isFitted

@@ -2,7 +2,7 @@
 use crate::probes;
 use bridge::Bridge;
 
-pub(crate) fn with(bridge: Bridge, id: &[u8; 8]) -> Bridge {
+fn with(bridge: Bridge, id: &[u8; 8]) -> Bridge {
     bridge.fit(id).bridge
 }
 

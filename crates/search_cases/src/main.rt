@@ -114,34 +114,18 @@ fn between() {
 fn withdrawn() {
     let bridge = lines::of_three(&A, &B, &C);
     let one = show::found(bridge, 1);
-    let two = show::found(bridge, 2);
     let all = show::found(bridge, 3);
     show::resumed(b"Resume after b = 1, C withdrawn", lines::without(one, &C));
-    show::resumed(b"Resume after b = 2, B withdrawn", lines::without(two, &B));
-    show::resumed(b"Resume after b = 3, A withdrawn", lines::without(all, &A));
     show::resumed(b"Resume after b = 1, A withdrawn", lines::without(one, &A));
-    show::resumed(b"Resume after b = 2, C withdrawn", lines::without(two, &C));
+    show::resumed(b"Resume after b = 3, A withdrawn", lines::without(all, &A));
     show::resumed(b"Resume after b = 3, B withdrawn", lines::without(all, &B));
-    show::resumed(
-        b"Resume after b = 3, B and C withdrawn",
-        lines::without(lines::without(all, &B), &C),
-    );
     show::resumed(
         b"Resume after b = 3, A withdrawn and fitted again",
         lines::with_again(all, &A),
     );
     show::resumed(
-        b"Resume after b = 3, B withdrawn and fitted again",
-        lines::with_again(all, &B),
-    );
-    let of_64 = show::found(lines::of_64(), 64);
-    show::resumed(
         b"Resume after a search of the line of 64, number 62 withdrawn",
-        lines::without_numbered(of_64, 62),
-    );
-    show::resumed(
-        b"Resume after a search of the line of 64, number 30 withdrawn",
-        lines::without_numbered(of_64, 30),
+        lines::without_numbered(show::found(lines::of_64(), 64), 62),
     );
 }
 
@@ -149,16 +133,8 @@ fn withdrawn() {
 fn fewer() {
     let bridge = lines::of_three(&A, &B, &C);
     let without_b = lines::without(bridge, &B);
-    show::search(b"A withdrawn, b = 3", lines::without(bridge, &A), 3);
     show::search(b"B withdrawn, b = 3", without_b, 3);
-    show::search(b"C withdrawn, b = 3", lines::without(bridge, &C), 3);
     show::search(b"B withdrawn, b = 1", without_b, 1);
-    show::search(b"B withdrawn, b = 2", without_b, 2);
-    show::search(
-        b"B withdrawn and fitted again, b = 3",
-        lines::with_again(bridge, &B),
-        3,
-    );
     let alone = lines::without(without_b, &C);
     show::search(b"B and C withdrawn, b = 3", alone, 3);
     show::search(b"all withdrawn, b = 3", lines::without(alone, &A), 3);
@@ -172,14 +148,9 @@ fn fewer() {
         lines::without(lines::with_pending(bridge), &C),
         3,
     );
-    show::search(
-        b"B withdrawn after a search",
-        lines::without(show::found(bridge, 3), &B),
-        3,
-    );
 }
 
-// A probe of the line of 64 withdrawn, then another in its room.
+// A probe of the line of 64 withdrawn, then another in its room; and the last one listed.
 fn swapped() {
     let bridge = lines::of_64();
     let without_30 = lines::without_numbered(bridge, 30);
@@ -187,11 +158,6 @@ fn swapped() {
     show::ends(
         b"number 64 in its room, b = 64",
         lines::with_numbered(without_30, 64),
-        64,
-    );
-    show::ends(
-        b"64 probes, the first listed withdrawn, b = 64",
-        lines::without_numbered(bridge, 63),
         64,
     );
     show::ends(

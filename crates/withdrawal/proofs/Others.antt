@@ -3,6 +3,9 @@
 --   others-passed, others-kept    one probe more is gone through: the one withdrawn; another
 --   others-fitted                 they are fewer exactly if the ID is fitted
 --   lineWith-more                 another probe goes behind those that are laid
+--   laid-passed, laid-kept        the line that is laid, with one entry more gone through
+--   fitted-when                   so the number of those left tells whether the ID is fitted
+--   withdrawn, not-fitted         number and line, by that
 use mathlib.Core.Path.{_≡_, refl, sym, ap, ap₂, _∙_}
 use mathlib.Core.Bool.{Bool, true, false, cond}
 use mathlib.Core.List.{List, [], _∷_, _++_, map}
