@@ -7,13 +7,15 @@
 
 enum condition { DEAF, TAKING, SENDING, MATCHING, SEARCHING, SELECTED };
 
+/* Both speeds are 1 for overdrive, 0 for standard. One that reverts goes to standard where its match differs. */
 struct probe {
     uint64_t id;
-    uint8_t marked, condition, bit, code;
+    uint8_t marked, condition, bit, code, overdrive, reverts;
 };
 
 static struct probe probes[64];
 static unsigned fitted;
+static uint8_t overdrive; /* the bridge's speed */
 
 static int bit_of(uint64_t id, unsigned k)
 {
@@ -37,11 +39,14 @@ static int sends(const struct probe *p)
 static void obey(struct probe *p)
 {
     p->bit = 0;
+    p->reverts = 0;
     switch (p->code) {
     case 0x33: p->condition = SENDING; p->marked = 0; break;
     case 0x55: p->condition = MATCHING; p->marked = 0; break;
+    case 0x69: p->condition = MATCHING; p->marked = 0; p->overdrive = p->reverts = 1; break;
     case 0xF0: p->condition = SEARCHING; p->marked = 0; break;
     case 0xCC: p->condition = SELECTED; p->marked = 0; break;
+    case 0x3C: p->condition = SELECTED; p->marked = 0; p->overdrive = 1; break;
     case 0xA5: p->condition = p->marked ? SELECTED : DEAF; break;
     default: p->condition = DEAF;
     }
@@ -51,6 +56,8 @@ static void compare(struct probe *p, unsigned k, unsigned last, int level)
 {
     if (bit_of(p->id, k) != level) {
         p->condition = DEAF;
+        if (p->reverts)
+            p->overdrive = 0;
     } else if (p->bit == last) {
         p->marked = 1;
         p->condition = SELECTED;
@@ -59,8 +66,10 @@ static void compare(struct probe *p, unsigned k, unsigned last, int level)
     }
 }
 
-static void take(struct probe *p, int level)
+static void take(struct probe *p, unsigned speed, int level)
 {
+    if (p->overdrive != speed)
+        return;
     switch (p->condition) {
     case TAKING:
         p->code = (uint8_t)(p->code >> 1 | (level ? 0x80 : 0));
@@ -86,11 +95,12 @@ static void take(struct probe *p, int level)
 /* One copy of the loops, so that the compiler takes the probe's functions into them. */
 __attribute__((noinline)) static int slot(int write)
 {
+    const unsigned speed = overdrive;
     int level = write;
     for (unsigned i = 0; level && i < fitted; i++)
-        level = sends(&probes[i]);
+        level = sends(&probes[i]) || probes[i].overdrive != speed;
     for (unsigned i = 0; i < fitted; i++)
-        take(&probes[i], level);
+        take(&probes[i], speed, level);
     return level;
 }
 
@@ -118,13 +128,20 @@ static unsigned triplet(int direction)
     return (unsigned)(bit << 7 | second << 6 | first << 5);
 }
 
-static void reset(void)
+/* At standard speed it reaches every probe and puts it to that speed. Whether it reached one is the answer. */
+static int reset(void)
 {
+    int presence = 0;
     for (unsigned i = 0; i < fitted; i++) {
+        if (overdrive && !probes[i].overdrive)
+            continue;
         probes[i].condition = TAKING;
         probes[i].bit = 0;
         probes[i].code = 0;
+        probes[i].overdrive = overdrive;
+        presence = 1;
     }
+    return presence;
 }
 
 /* The taps are 8Ch for the CRC-8 and A001h for the CRC-16. */
@@ -149,10 +166,21 @@ static void fit(unsigned serial)
 
 static unsigned status = 0x18, readout;
 
+static void reset_line(void)
+{
+    status = (status & 0xFD) | (reset() ? 0x02 : 0);
+}
+
+/* Write Configuration clears RST; 1WS is the speed. */
+static void configure(unsigned byte)
+{
+    status &= 0xEF;
+    overdrive = byte >> 3 & 1;
+}
+
 static void work(int kind)
 {
-    reset();
-    status |= 0x02;
+    reset_line();
     write_byte(kind == 'r' || kind == 'p' ? 0x33 : 0xF0);
     if (kind == 'w' || kind == 'p')
         for (unsigned k = 0; k < 8; k++)
@@ -170,8 +198,7 @@ static uint64_t pass(uint64_t previous, int *conflict)
 {
     uint64_t id = 0;
     int last = *conflict, next = -1;
-    reset();
-    status = (status & 0xFC) | 0x02;
+    reset_line();
     write_byte(0xF0);
     for (int k = 0; k < 64; k++) {
         unsigned d = k < last ? (unsigned)(previous >> k & 1) : k == last;
@@ -190,6 +217,7 @@ static void search(uint8_t *list)
     uint64_t id = 0;
     int conflict = -1;
     status = 0x18;
+    overdrive = 0;
     do {
         id = pass(id, &conflict);
         for (int k = 0; k < 8; k++)
@@ -198,9 +226,26 @@ static void search(uint8_t *list)
     } while (conflict >= 0 && count < 64);
 }
 
+static void rounds(int kind)
+{
+    for (int i = 0; i < 100; i++)
+        work(kind);
+}
+
+/* All probes and the bridge go to overdrive, and behind the rounds the bridge back. */
+static void rounds_at_overdrive(int kind)
+{
+    configure(0xF0);
+    reset_line();
+    write_byte(0x3C);
+    configure(0x78);
+    rounds(kind);
+    configure(0xF0);
+}
+
 /*
- * For each letter of the input 100 rounds of that work, a full search for f; then the status and the read-data byte, and for f before
- * them the CRC-16 of the list.
+ * For each letter of the input 100 rounds of that work, for a capital one at overdrive, and a full search for f; then the status and
+ * the read-data byte, and for f before them the CRC-16 of the list.
  */
 int main(void)
 {
@@ -211,9 +256,10 @@ int main(void)
         if (kind == 'f') {
             search(list);
             printf("%04x ", crc(0xA001, list, 512));
+        } else if (kind >= 'A' && kind <= 'Z') {
+            rounds_at_overdrive(kind - 'A' + 'a');
         } else {
-            for (int i = 0; i < 100; i++)
-                work(kind);
+            rounds(kind);
         }
         printf("%02x %02x\n", status, readout);
     }

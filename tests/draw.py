@@ -12,12 +12,13 @@ tool = loaded_tool()
 
 PARAMETERS = {  # of each command that has one, those that mean something, and some that look so
     0xE1: (0xF0, 0xE1, 0xC3, 0xD2),
-    0xD2: (0xF0, 0xE1, 0xD2),
+    0xD2: (0xF0, 0xE1, 0x78, 0x69, 0xD2, 0x5A, 0x4B, 0x79),
     0x87: (0x00, 0x80),
-    0xA5: (0x33, 0x55, 0xF0, 0xCC, 0xA5),
+    0xA5: (0x33, 0x55, 0xF0, 0xCC, 0xA5, 0x3C, 0x69),
     0x78: (0x00, 0x80),
 }
 COMMANDS = (0xF0, 0xB4, 0x96, *PARAMETERS)
+SPEEDS = (0xF0, 0xE1), (0x78, 0x69)  # the configuration bytes of standard speed, and of overdrive
 READ, WAIT = ('read', b''), ('wait', b'')
 
 
@@ -31,6 +32,18 @@ def write(*data):
 def done(*data):
     """A command that is given time."""
     return [write(*data), WAIT]
+
+
+def speed(source, fast):
+    """The bridge is put to overdrive if it has to be fast, else to standard speed."""
+    return write(0xD2, source.choice(SPEEDS[fast]))
+
+
+def speed_after(fast, event):
+    """Whether the bridge is fast after an event, where that is not refused as busy."""
+    if event == write(0xF0):
+        return False
+    return next((kind for kind in (False, True) for byte in SPEEDS[kind] if event == write(0xD2, byte)), fast)
 
 
 def new_id(source):
@@ -78,6 +91,62 @@ def any_event(source, fitted):
     return source.choice(ways)(source, fitted)
 
 
+def looked_at(source, events):
+    """The events; where time has passed a register is read."""
+    looks = [READ], [READ], [write(0xE1, 0xE1), READ], [write(0xE1, 0xC3), READ]
+    return [event for first in events for event in [first, *(source.choice(looks) if first == WAIT else [])]]
+
+
+def with_room(events, bits_of=tool.bits_of):
+    """No more of the events than the longest script has room for."""
+    sizes = accumulate(len(bits_of(event)) for event in events)
+    return [event for event, size in zip(events, sizes) if size <= 8 * tool.LONGEST - tool.COUNT_BITS]
+
+
+# ---- bytes on the line
+
+
+def in_bytes(_, data):
+    """Each byte by Write Byte."""
+    return [event for byte in data for event in done(0xA5, byte)]
+
+
+def out_of_step(source, data):
+    """The same bits by commands that do not begin where a byte does; the last one may have more slots behind them."""
+    bits = [byte >> i & 1 for byte in data for i in range(8)]
+    events = []
+    while bits:
+        byte = sum(bit << i for i, bit in enumerate(bits[:8])) | source.randrange(256) << len(bits) & 0xFF
+        ways = [(1, (0x87, bits[0] << 7))] + [(8, (0xA5, byte))] * bool(events)
+        ways += [(3, (0x78, source.choice((0x00, 0x80))))] * all(bits[:3])
+        ways += [(8, (0x96,))] * all(bits[:8])
+        size, way = source.choice(ways)
+        events += done(*way)
+        bits = bits[size:]
+    return events
+
+
+def rom_command(source, code, fitted, put=in_bytes):
+    """A ROM command with all that it takes; now and then Read ROM takes a byte less, or the ID to match is none on the line. Behind 69h the
+    bridge goes to overdrive for the ID, but for one time in six; behind 3Ch every other time."""
+    probe = bytearray(source.choice(fitted))
+    probe[source.randrange(8)] ^= source.choice((0, 0, 0, 0, 1 << source.randrange(8)))
+    if code == 0x55 or code == 0x69 and source.randrange(6) == 0:
+        return put(source, [code, *probe])
+    courses = {
+        0x33: done(0x96) * source.choice((8, 8, 7)),
+        0xF0: [event for _ in range(64) for event in done(0x78, source.choice((0x00, 0x80)))],
+        0x3C: [speed(source, True)] * source.randrange(2),
+        0x69: [speed(source, True), *put(source, probe)],
+    }
+    return put(source, [code]) + courses.get(code, [])
+
+
+def hurried(source):
+    """All probes go from standard speed to overdrive, and so does the bridge."""
+    return done(0xB4) + done(0xA5, 0x3C) + [speed(source, True)]
+
+
 # ---- mixes
 
 
@@ -98,9 +167,11 @@ def slots(source):
 
 
 def session(source, probes=None):
-    """Probes, then reset and a ROM command and slots, again and again; now and then something comes between."""
+    """Probes, then reset and a ROM command and slots, again and again; now and then something comes between. One in eight is at
+    overdrive."""
     fitted = []
     events = [fitting(source, fitted) for _ in range(source.randrange(7) if probes is None else probes)]
+    events += hurried(source) if source.randrange(8) == 0 else []
     for _ in range(source.randrange(1, 5)):
         events += done(0xB4) + [READ] + done(0xA5, source.choice((0x33, 0x33, 0xF0, 0xF0, 0x55, 0xCC, 0xA5)))
         for _ in range(source.randrange(40)):
@@ -116,9 +187,10 @@ def crowd(source):
 
 
 def search(source):
-    """Some passes of 64 triplets and more; one in four is disturbed on the way."""
+    """Some passes of 64 triplets and more; one in four is disturbed on the way. One script in six searches at overdrive."""
     fitted = []
     events = [fitting(source, fitted) for _ in range(source.randrange(1, 12))]
+    events += hurried(source) if source.randrange(6) == 0 else []
     for _ in range(source.randrange(1, 4)):
         events += done(0xB4) + [READ] + done(0xA5, 0xF0)
         for _ in range(66):
@@ -128,27 +200,65 @@ def search(source):
     return events
 
 
-def rom_command(source, code, fitted):
-    """A ROM command with all that it takes; now and then Read ROM takes a byte less, or the ID to match is none on the line."""
-    probe = bytearray(source.choice(fitted))
-    probe[source.randrange(8)] ^= source.choice((0, 0, 0, 0, 0x10))
-    courses = {
-        0x33: done(0x96) * source.choice((8, 8, 7)),
-        0x55: [event for byte in probe for event in done(0xA5, byte)],
-        0xF0: [event for _ in range(64) for event in done(0x78, source.choice((0x00, 0x80)))],
-    }
-    return done(0xA5, code) + courses.get(code, [])
-
-
 def marking(source):
     """Some probes; a match or a search, then any ROM command or an unknown code, again and again, mostly each after a reset."""
     fitted = []
     events = [fitting(source, fitted) for _ in range(source.randrange(1, 5))]
     for _ in range(source.randrange(1, 4)):
-        for codes in ((0x55, 0xF0), (0x33, 0x55, 0xF0, 0xCC, 0xA5, source.randrange(256))):
+        events.append(speed(source, False))
+        for codes in ((0x55, 0xF0), (0x33, 0x55, 0xF0, 0xCC, 0xA5, 0x3C, 0x69, source.randrange(256))):
             events += done(0xB4) if source.randrange(8) else []
             events += rom_command(source, source.choice(codes), fitted)
     return events
+
+
+def raised(source, fitted):
+    """At standard speed a reset, then 3Ch or 69h."""
+    back = source.choice((speed(source, False), speed(source, False), write(0xF0)))
+    code, put = source.choice(((0x3C, in_bytes), (0x3C, in_bytes), (0x3C, out_of_step), (0x69, in_bytes), (0x69, out_of_step)))
+    return [back, *done(0xB4), *rom_command(source, code, fitted, put)]
+
+
+def driven(source, fitted):
+    """Mostly at overdrive and after a reset: a ROM command; then slots, or a reset and often Resume."""
+    codes = 0x33, 0x33, 0x55, 0x55, 0xF0, 0xF0, 0xCC, 0xA5, 0xA5, 0xA5, 0x3C, 0x69, 0x69, source.randrange(256)
+    events = [speed(source, source.randrange(8) > 0)] + (done(0xB4) if source.randrange(8) else [])
+    events += rom_command(source, source.choice(codes), fitted, source.choice((in_bytes, in_bytes, out_of_step)))
+    return events + source.choice((slots(source), slots(source) + slots(source), done(0xB4), done(0xB4) + done(0xA5, 0xA5)))
+
+
+def aside(source, fast):
+    """The bridge goes to the other speed and mostly back. There are slots there, and often a reset; seldom at standard speed, where it
+    reaches all probes."""
+    there = [write(0xF0)] if fast and source.randrange(3) == 0 else [speed(source, not fast)]
+    reset = source.randrange(16) == 0 if fast else source.randrange(2)
+    deeds = (done(0xB4) + [READ]) * reset + [event for _ in range(source.randrange(1, 4)) for event in slots(source)]
+    return there + deeds + ([speed(source, fast)] if source.randrange(6) else [])
+
+
+def with_asides(source, events):
+    """The events, with an aside now and then where time has passed."""
+    fast, seldom = False, source.choice((15, 60, 1000))
+    for event in events:
+        yield event
+        fast = speed_after(fast, event)
+        if event == WAIT and source.randrange(seldom) == 0:
+            yield from aside(source, fast)
+
+
+def overdrive(source):
+    """Some probes are put to overdrive; then resets, ROM commands and slots at either speed, with probes that come later. Half of the
+    scripts end on the way."""
+    fitted = [new_id(source) for _ in range(source.randrange(1, 6))]
+    events = [('fit', probe) for probe in fitted]
+    for _ in range(source.randrange(1, 4)):
+        events += raised(source, fitted)
+        for _ in range(source.randrange(6)):
+            if source.randrange(5) == 0:
+                events.append(source.choice((fitting, any_event))(source, fitted))
+            events += driven(source, fitted)
+    events = with_room(looked_at(source, list(with_asides(source, events))))
+    return events[:source.choice((len(events), source.randrange(len(events))))]
 
 
 def filling(source, size):
@@ -227,14 +337,15 @@ def packed(mix):
 
 
 SCRIPTS = {  # how many parts of the whole each is, and how it is drawn
-    'mixed': (6, packed(mixed)),
+    'mixed': (5, packed(mixed)),
     'session': (5, packed(session)),
     'crowd': (2, packed(crowd)),
     'search': (2, packed(search)),
-    'marking': (4, packed(marking)),
-    'long': (1, long),
+    'marking': (6, packed(marking)),
+    'overdrive': (6, packed(overdrive)),
+    'long': (2, long),
     'any bytes': (2, any_bytes),
-    'mutated': (6, mutated),
+    'mutated': (7, mutated),
 }
 
 
@@ -283,21 +394,42 @@ def swapping(source, line, gone):
     return [source.choice((coming, going))(source, line, gone)]
 
 
+def meant(source, line):
+    """The probes that a ROM command may be meant for, often the last one."""
+    return source.choice((line, line[-1:])) or [new_id(source)]
+
+
 def course(source, line):
-    """A reset, a ROM command with what it takes, often meant for the last probe, and slots; after each a register is read."""
+    """A reset, a ROM command with what it takes, and slots; after each a register is read."""
     code = source.choice((0x33, 0x55, 0x55, 0x55, 0xF0, 0xF0, 0xCC, 0xA5, 0xA5, 0xA5))
-    events = done(0xB4) + rom_command(source, code, source.choice((line, line[-1:])) or [new_id(source)])
+    events = done(0xB4) + rom_command(source, code, meant(source, line))
     events += [event for _ in range(source.randrange(4)) for event in slots(source)]
-    looks = [READ], [READ], [write(0xE1, 0xE1), READ], [write(0xE1, 0xC3), READ]
-    return [event for first in events for event in [first, *(source.choice(looks) if first == WAIT else [])]]
+    return looked_at(source, events)
+
+
+def fast_course(source, line):
+    """As a course, mostly at overdrive, or one that puts probes there."""
+    return looked_at(source, source.choice((raised, driven, driven, driven))(source, meant(source, line)))
+
+
+def last_swapped(source, line):
+    """Another comes in the last probe's room, or it comes itself."""
+    probe = line.pop() if line else new_id(source)
+    line.append(source.choice((probe, new_id(source))))
+    return [('withdraw', probe), ('fit', line[-1])]
 
 
 def mark_swapped(source, line):
-    """The last probe is matched, and another comes in its room or it comes itself; then often a reset and Resume."""
-    probe = line.pop() if line else new_id(source)
-    line.append(source.choice((probe, new_id(source))))
-    events = done(0xB4) + [event for byte in (0x55, *probe) for event in done(0xA5, byte)]
-    return events + [('withdraw', probe), ('fit', line[-1])] + source.choice(([], done(0xB4) + done(0xA5, 0xA5)))
+    """The last probe is matched and swapped; then often a reset and Resume."""
+    swap = last_swapped(source, line)
+    events = done(0xB4) + in_bytes(source, [0x55, *swap[0][1]])
+    return events + swap + source.choice(([], done(0xB4) + done(0xA5, 0xA5)))
+
+
+def speed_swapped(source, line):
+    """The last probe is swapped while all are at overdrive; then often a reset there."""
+    swap = last_swapped(source, line)
+    return [speed(source, False), *hurried(source), *swap] + source.choice(([], done(0xB4) + [READ]))
 
 
 def stirred(source, events, line, gone):
@@ -312,18 +444,21 @@ def stirred(source, events, line, gone):
 
 
 def swaps(source):
-    """Some probes, or about 64; then courses, stirred, the last one often cut short. No more than the longest script has room for."""
+    """Some probes, or about 64; then courses, stirred, the last one often cut short; one case in four is at overdrive. No more than the
+    longest script has room for."""
     line, gone = [], []
+    fast = source.randrange(4) == 0
     number = source.choice((source.randrange(1, 7), source.randrange(1, 7), source.randrange(80, 110)))
-    events = [write(0xD2, source.choice((0xE1, 0xF0)))] + [coming(source, line, gone) for _ in range(number)]
+    events = [speed(source, False)] + [coming(source, line, gone) for _ in range(number)]
+    events += hurried(source) if fast else []
     for left in reversed(range(source.randrange(2, 6))):
-        steps = course(source, line)
+        steps = (fast_course if fast else course)(source, line)
         end = len(steps) if left or source.randrange(2) else source.randrange(len(steps))
         events += stirred(source, steps[:end], line, gone)
         events += swapping(source, line, gone) if source.randrange(2) else []
-    events += mark_swapped(source, line) if source.randrange(6) == 0 else []
-    sizes = accumulate(len(swap_bits(event)) for event in events)
-    return [event for event, size in zip(events, sizes) if size <= 8 * tool.LONGEST - tool.COUNT_BITS]
+    if source.randrange(2 if fast else 5) == 0:
+        events += (speed_swapped if fast else mark_swapped)(source, line)
+    return with_room(events, swap_bits)
 
 
 def swap_bits(event):

@@ -23,11 +23,12 @@ enum condition { DEAF, TAKING, SENDING, MATCHING, SEARCHING, SELECTED };
 
 struct probe {
     uint8_t id[8];
+    uint8_t overdrive; /* its speed: 0 standard, 1 overdrive */
     uint8_t marked;
     uint8_t condition;
     uint8_t bit;  /* how many bits of a command, or of the ID, are behind it */
     uint8_t slot; /* of a search bit: 0, 1, 2 */
-    uint8_t code; /* the command's bits so far */
+    uint8_t code; /* the bits of the command so far; once it is whole, the command that is obeyed */
 };
 
 static int id_bit(const struct probe *p)
@@ -54,7 +55,7 @@ static void begin(struct probe *p, enum condition c)
 
 static int clears_mark(uint8_t code)
 {
-    return code == 0x33 || code == 0x55 || code == 0xF0 || code == 0xCC;
+    return code == 0x33 || code == 0x55 || code == 0xF0 || code == 0xCC || code == 0x3C || code == 0x69;
 }
 
 static void obey(struct probe *p)
@@ -74,6 +75,14 @@ static void obey(struct probe *p)
     case 0xCC:
         begin(p, SELECTED);
         break;
+    case 0x3C:
+        p->overdrive = 1;
+        begin(p, SELECTED);
+        break;
+    case 0x69:
+        p->overdrive = 1;
+        begin(p, MATCHING);
+        break;
     case 0xA5:
         begin(p, p->marked ? SELECTED : DEAF);
         break;
@@ -82,10 +91,17 @@ static void obey(struct probe *p)
     }
 }
 
+static int matches_by_69(const struct probe *p)
+{
+    return p->condition == MATCHING && p->code == 0x69;
+}
+
 /* The probe compares the level with its ID's bit; after the last one it is marked and selected. */
 static void compare(struct probe *p, int level)
 {
     if (level != id_bit(p)) {
+        if (matches_by_69(p))
+            p->overdrive = 0;
         begin(p, DEAF);
     } else if (p->bit == 63) {
         p->marked = 1;
@@ -136,13 +152,26 @@ struct bridge {
     struct probe probes[PROBES_MOST];
 };
 
+/* The bridge's speed: 1WS of the configuration. */
+static int at_overdrive(const struct bridge *b)
+{
+    return b->configuration >> 3 & 1;
+}
+
+static int reached(const struct bridge *b, const struct probe *p)
+{
+    return p->overdrive == at_overdrive(b);
+}
+
 static int slot(struct bridge *b, int written)
 {
     int level = written;
     for (int i = 0; i < b->count && level; i++)
-        level = sent(&b->probes[i]);
-    for (int i = 0; i < b->count; i++)
-        take(&b->probes[i], level);
+        level = !reached(b, &b->probes[i]) || sent(&b->probes[i]);
+    for (int i = 0; i < b->count; i++) {
+        if (reached(b, &b->probes[i]))
+            take(&b->probes[i], level);
+    }
     return level;
 }
 
@@ -166,13 +195,20 @@ static void triplet(struct bridge *b)
     b->dir = (uint8_t)bit;
 }
 
+/* At standard speed it is heard by all, and puts them to that speed. */
 static void wire_reset(struct bridge *b)
 {
-    b->ppd = b->count > 0;
-    for (int i = 0; i < b->count; i++) {
-        begin(&b->probes[i], TAKING);
-        b->probes[i].code = 0;
+    int presence = 0;
+    for (struct probe *p = b->probes; p < b->probes + b->count; p++) {
+        if (!at_overdrive(b))
+            p->overdrive = 0;
+        if (reached(b, p)) {
+            begin(p, TAKING);
+            p->code = 0;
+            presence = 1;
+        }
     }
+    b->ppd = (uint8_t)presence;
 }
 
 static void time_passes(struct bridge *b)
@@ -248,7 +284,7 @@ static unsigned write_bytes(struct bridge *b, const uint8_t *x, unsigned n)
     case 0xE1:
         return set_pointer(b, x[1]);
     case 0xD2:
-        if (x[1] != 0xF0 && x[1] != 0xE1)
+        if (x[1] != 0xF0 && x[1] != 0xE1 && x[1] != 0x78 && x[1] != 0x69)
             return 8;
         b->configuration = x[1] & 15;
         b->rst = 0;
@@ -472,7 +508,9 @@ static char *put_condition(char *to, const struct probe *p)
     to = put_text(to, words[p->condition]);
     if (p->condition != DEAF && p->condition != SELECTED)
         to = put_number(to, p->bit);
-    return p->condition == SEARCHING ? put_text(to, slots[p->slot]) : to;
+    if (p->condition == SEARCHING)
+        to = put_text(to, slots[p->slot]);
+    return matches_by_69(p) ? put_text(to, " by 69") : to;
 }
 
 static size_t probes_shown(const struct bridge *b, char *out)
@@ -481,7 +519,8 @@ static size_t probes_shown(const struct bridge *b, char *out)
     for (const struct probe *p = b->probes; p < b->probes + b->count; p++) {
         to = put_byte(put_byte(put_text(to, "probe "), p->id[0]), p->id[1]);
         to = put_condition(put_text(to, ": "), p);
-        to = put_text(to, p->marked ? ", marked\n" : "\n");
+        to = put_text(to, p->marked ? ", marked" : "");
+        to = put_text(to, p->overdrive ? ", overdrive\n" : "\n");
     }
     return (size_t)(to - out);
 }

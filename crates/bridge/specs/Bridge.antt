@@ -1,5 +1,6 @@
--- The bridge (document 01, "The bridge" and "Numbers returned", and document 02, R-3): its registers, and the line beside them.
+-- The bridge (document 01, "The bridge" and "Numbers returned", and document 02, R-2 and R-3): its registers, and the line beside them.
 --   powerOn               the state at power-on
+--   speedOf r             the bridge's speed
 --   statusOf r            the status register
 --   readOf b              what a read gives
 --   accepted c x r        the registers after an accepted write of the code c and the parameter x
@@ -16,7 +17,8 @@ use lib.Dec.{eqb}
 use lib.ListN.{length, getD}
 use Rattle.probe.specs.Probe.{digit}
 use Rattle.line.specs.declared.Line.{Line}
-use Rattle.line.specs.Line.{bare, level, slot, slots, levels, resetAll, present, afterFit}
+use Rattle.line.specs.Line.{bare, level, slot, slots, levels, afterReset, present, afterFit}
+use Rattle.triplet_slots.specs.Triplet.{firstLevel, secondLevel, writtenBit, afterTriplet}
 use Rattle.withdrawal.specs.Withdrawal.{afterWithdraw}
 use Rattle.bridge.specs.declared.Pointer.{Pointer}
 use Rattle.bridge.specs.declared.Pointer.the-variants.{Status, ReadData, Configuration}
@@ -42,6 +44,10 @@ cleared o =
 -- At power-on the read-data byte is 00h and no probe is fitted.
 unfoldable pub powerOn : Bridge
 powerOn = record { registers = cleared 0; line = bare }
+
+-- 1WS, bit 3 of the configuration, is the bridge's speed (document 02, R-2). At power-on and after a Device Reset it is standard.
+abbrev pub speedOf : Registers → ℕ
+speedOf r = r .configuration / 8 % 2
 
 -- 1WB: a 1-Wire command is pending.
 abbrev pub isPending : Pending → Bool
@@ -138,11 +144,12 @@ bytesOf c =
 unfoldable pub takenWhileBusy : ℕ → Bool
 takenWhileBusy c = cond (eqb c 0xF0) true (eqb c 0xE1)
 
--- The pointer codes are F0h, E1h and C3h, the configuration bytes F0h and E1h alone; any other parameter will do.
+-- The pointer codes are F0h, E1h and C3h; the configuration bytes are F0h and E1h, and 78h and 69h, which set 1WS (document 02, R-2); any
+-- other parameter will do.
 unfoldable pub goodParameter : ℕ → ℕ → Bool
 goodParameter c x =
     cond (eqb c 0xE1) (cond (eqb x 0xF0) true (cond (eqb x 0xE1) true (eqb x 0xC3)))
-    (cond (eqb c 0xD2) (cond (eqb x 0xF0) true (eqb x 0xE1)) true)
+    (cond (eqb c 0xD2) (cond (eqb x 0xF0) true (cond (eqb x 0xE1) true (cond (eqb x 0x78) true (eqb x 0x69)))) true)
 
 -- No bytes at all: 7. Then, in this order: unknown code 5, busy 6, wrong number of bytes 7, bad parameter 8.
 unfoldable pub writeNumber : List ℕ → Bridge → ℕ
@@ -163,6 +170,8 @@ afterWrite x b =
 
 -- ---- time passing
 
+-- Slots and resets come at the bridge's speed.
+
 -- What a finished command leaves: nothing pending, and pointer and configuration as they were.
 abbrev pub finished : StatusBits → ℕ → Registers → Registers
 finished s o r =
@@ -175,45 +184,45 @@ withPresence p s = record { dir = s .dir; tsb = s .tsb; sbr = s .sbr; rst = s .r
 abbrev pub withLevels : Bool → Bool → Bool → StatusBits → StatusBits
 withLevels d second first s = record { dir = d; tsb = second; sbr = first; rst = s .rst; ppd = s .ppd }
 
--- B4h 1-Wire Reset: PPD says whether some probe is fitted.
+-- B4h 1-Wire Reset: PPD says whether some probe answers.
 unfoldable pub finishedReset : Bridge → Bridge
 finishedReset b =
     let r = b .registers in
-    record { registers = finished (withPresence (present (b .line)) (r .status)) (r .readout) r; line = resetAll (b .line) }
+    let v = speedOf r in
+    record { registers = finished (withPresence (present v (b .line)) (r .status)) (r .readout) r; line = afterReset v (b .line) }
 
 -- 87h Single Bit: one slot; SBR is the line level, and DIR stays.
 unfoldable pub finishedBit : Bool → Bridge → Bridge
 finishedBit w b =
     let r = b .registers in
+    let v = speedOf r in
     let s = r .status in
-    record { registers = finished (withLevels (s .dir) (s .tsb) (level w (b .line)) s) (r .readout) r; line = slot w (b .line) }
+    record { registers = finished (withLevels (s .dir) (s .tsb) (level v w (b .line)) s) (r .readout) r; line = slot v w (b .line) }
+
+-- Eight slots with the bits of x, low bit first, and o in the read-data byte.
+abbrev pub eightSlots : ℕ → ℕ → Bridge → Bridge
+eightSlots x o b =
+    let r = b .registers in
+    record { registers = finished (r .status) o r; line = slots (speedOf r) 8 x (b .line) }
 
 -- A5h Write Byte: eight slots, low bit first.
 unfoldable pub finishedWrite : ℕ → Bridge → Bridge
-finishedWrite x b =
-    let r = b .registers in
-    record { registers = finished (r .status) (r .readout) r; line = slots 8 x (b .line) }
+finishedWrite x b = eightSlots x (b .registers .readout) b
 
 -- 96h Read Byte: eight write-one slots; their levels go to read data, the first in the low bit.
 unfoldable pub finishedRead : Bridge → Bridge
-finishedRead b =
-    let r = b .registers in
-    record { registers = finished (r .status) (levels 8 0xFF (b .line)) r; line = slots 8 0xFF (b .line) }
-
--- The bit that a triplet writes. Levels 0,0: the direction asked for; 0,1: 0; 1,0 and 1,1: 1.
-abbrev pub chosen : Bool → Bool → Bool → Bool
-chosen first second d = cond first true (cond second false d)
+finishedRead b = eightSlots 0xFF (levels (speedOf (b .registers)) 8 0xFF (b .line)) b
 
 -- 78h Triplet: two write-one slots, then a write slot. SBR is the first level, TSB the second, DIR the bit written.
 unfoldable pub finishedTriplet : Bool → Bridge → Bridge
 finishedTriplet d b =
-    let l1 = slot true (b .line) in
-    let l2 = slot true l1 in
-    let first = level true (b .line) in
-    let second = level true l1 in
-    let w = chosen first second d in
     let r = b .registers in
-    record { registers = finished (withLevels w second first (r .status)) (r .readout) r; line = slot w l2 }
+    let v = speedOf r in
+    let l = b .line in
+    record {
+      registers = finished (withLevels (writtenBit v d l) (secondLevel v l) (firstLevel v l) (r .status)) (r .readout) r;
+      line = afterTriplet v d l;
+    }
 
 -- Time passing with nothing pending changes nothing.
 unfoldable pub finishedOf : Pending → Bridge → Bridge

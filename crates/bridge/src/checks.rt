@@ -55,6 +55,8 @@ fn good_configuration(x: u8) -> bool
     match x {
         Bridge::PULL_UP_PASSIVE => true,
         Bridge::PULL_UP_ACTIVE => true,
+        Bridge::OVERDRIVE_PASSIVE => true,
+        Bridge::OVERDRIVE_ACTIVE => true,
         _ => false,
     }
 }

@@ -1,4 +1,4 @@
-// The bridge: one DS2482-101 and the line behind it (document 01, "The bridge").
+// The bridge: one DS2482-101 and the line behind it (document 01, "The bridge", and document 02, R-2 and R-3).
 //
 // A write is checked; one that is accepted has its effect; a 1-Wire command becomes pending and has its effect when time passes; a read gives the register
 // under the read pointer. Bad input is refused by number and changes nothing.
@@ -16,7 +16,8 @@ ghost use Prim.Native.Nat.{_*_, _≤_};
 ghost use Rattle.probe.specs.Probe.{digit};
 ghost use Rattle.line.specs.Line.{fitNumber};
 ghost use Rattle.withdrawal.specs.Withdrawal.{withdrawNumber};
-ghost use Rattle.bridge.specs.Bridge.{powerOn, statusOf, readOf, writeNumber, afterWrite, afterTime, afterFitting, afterWithdrawal};
+ghost use Rattle.bridge.specs.Bridge.{powerOn, speedOf, statusOf, readOf, writeNumber, afterWrite, afterTime};
+ghost use Rattle.bridge.specs.Bridge.{afterFitting, afterWithdrawal};
 
 // The refusals of a write, by their numbers in the table of document 01.
 pub const REFUSED_UNKNOWN: u8 = 5;
@@ -80,6 +81,13 @@ fn weighed(bit: bool, weight: u8) -> u8
 }
 
 impl Registers {
+    // 1WS: the speed of slots and resets.
+    pub(crate) fn speed(self) -> u8
+        ensures { λ r. ⌜ r ≡ speedOf self ⌝ }
+    {
+        self.configuration / 8 % 2
+    }
+
     fn status(self) -> u8
         ensures { λ r. ⌜ r ≡ statusOf self ⌝ }
     {
@@ -120,10 +128,15 @@ impl Bridge {
 
     pub const POINTER_CONFIGURATION: u8 = 0xC3;
 
-    // The configuration bytes: active pull-up off and on. The upper nibble is the complement of the lower one, which is stored.
+    // The configuration bytes: active pull-up off and on, at standard speed and at overdrive. The upper nibble is the complement of the
+    // lower one, which is stored.
     pub const PULL_UP_PASSIVE: u8 = 0xF0;
 
     pub const PULL_UP_ACTIVE: u8 = 0xE1;
+
+    pub const OVERDRIVE_PASSIVE: u8 = 0x78;
+
+    pub const OVERDRIVE_ACTIVE: u8 = 0x69;
 
     // The state at power-on: no probe is fitted and the status reads 18h.
     pub fn power_on() -> Bridge
@@ -178,8 +191,8 @@ impl Bridge {
             Pending::Nothing => self,
             Pending::Reset => self.finished_reset(),
             Pending::SingleBit { bit } => self.finished_bit(bit),
-            Pending::WriteByte { byte } => self.finished_write(byte),
-            Pending::ReadByte => self.finished_read(),
+            Pending::WriteByte { byte } => self.finished_byte(byte, false),
+            Pending::ReadByte => self.finished_byte(0xFF, true),
             Pending::Triplet { direction } => self.finished_triplet(direction),
         }
     }

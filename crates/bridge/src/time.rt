@@ -4,18 +4,15 @@ use crate::Pending;
 use crate::Registers;
 use crate::StatusBits;
 ghost use mathlib.Core.Path.{_≡_};
-ghost use Rattle.bridge.specs.Bridge.{chosen as chosenBy, finished as finishedWith};
-ghost use Rattle.bridge.specs.Bridge.{finishedReset, finishedBit, finishedWrite, finishedRead, finishedTriplet};
+ghost use mathlib.Core.Bool.{cond};
+ghost use Rattle.line.specs.Line.{levels};
+ghost use Rattle.bridge.specs.Bridge.{speedOf, finished as finishedWith, eightSlots, finishedReset, finishedBit, finishedTriplet};
 
-// The bit that a triplet writes after its two levels.
-fn chosen(first: bool, second: bool, direction: bool) -> bool
-    ensures { λ r. ⌜ r ≡ chosenBy first second direction ⌝ }
+// The read-data byte after eight slots of these levels.
+fn read_data(reads: bool, levels: u8, before: u8) -> u8
+    ensures { λ r. ⌜ r ≡ cond reads levels before ⌝ }
 {
-    if first {
-        true
-    } else {
-        if second { false } else { direction }
-    }
+    if reads { levels } else { before }
 }
 
 impl Registers {
@@ -40,11 +37,12 @@ impl Bridge {
     {
         let registers = self.registers;
         let line = self.line;
+        let speed = registers.speed();
         let mut status = registers.status;
-        status.ppd = line.present();
+        status.ppd = line.present(speed);
         Bridge {
             registers: registers.finished(status, registers.readout),
-            line: line.reset(),
+            line: line.reset(speed),
         }
     }
 
@@ -53,7 +51,7 @@ impl Bridge {
     {
         let registers = self.registers;
         let line = self.line;
-        let slotted = line.slot(bit);
+        let slotted = line.slot(registers.speed(), bit);
         let mut status = registers.status;
         status.sbr = slotted.level;
         let after = slotted.line;
@@ -63,30 +61,18 @@ impl Bridge {
         }
     }
 
-    pub(crate) fn finished_write(self, byte: u8) -> Bridge
-        ensures { λ r. ⌜ r ≡ finishedWrite byte self ⌝ }
+    // Eight slots. Write Byte and Read Byte share them, so that the line is copied less.
+    pub(crate) fn finished_byte(self, byte: u8, reads: bool) -> Bridge
+        ensures { λ r. ⌜ r ≡ eightSlots byte (cond reads (levels (speedOf (self .registers)) 8 byte (self .line)) (self .registers .readout)) self ⌝ }
     {
         let registers = self.registers;
         let line = self.line;
-        let eight = byte_slots::slots(line, byte);
+        let eight = byte_slots::slots(line, registers.speed(), byte);
         let status = registers.status;
         let after = eight.line;
+        let readout = read_data(reads, eight.byte, registers.readout);
         Bridge {
-            registers: registers.finished(status, registers.readout),
-            line: after,
-        }
-    }
-
-    pub(crate) fn finished_read(self) -> Bridge
-        ensures { λ r. ⌜ r ≡ finishedRead self ⌝ }
-    {
-        let registers = self.registers;
-        let line = self.line;
-        let eight = byte_slots::slots(line, 0xFF);
-        let status = registers.status;
-        let after = eight.line;
-        Bridge {
-            registers: registers.finished(status, eight.byte),
+            registers: registers.finished(status, readout),
             line: after,
         }
     }
@@ -96,15 +82,15 @@ impl Bridge {
     {
         let registers = self.registers;
         let line = self.line;
-        let two = triplet_slots::two_levels(line);
-        let bit = chosen(two.first, two.second, direction);
+        let three = triplet_slots::triplet(line, registers.speed(), direction);
         let mut status = registers.status;
-        status.dir = bit;
-        status.tsb = two.second;
-        status.sbr = two.first;
+        status.dir = three.bit;
+        status.tsb = three.second;
+        status.sbr = three.first;
+        let after = three.line;
         Bridge {
             registers: registers.finished(status, registers.readout),
-            line: triplet_slots::slot_after_two(line, two.first, two.second, bit),
+            line: after,
         }
     }
 }

@@ -3,7 +3,9 @@ use crate::say;
 use bridge::Bridge;
 use line::Line;
 use probe::Condition;
+use probe::OVERDRIVE;
 use probe::Probe;
+use probe::STANDARD;
 use probe::Slot;
 
 fn slot(s: Slot) {
@@ -25,7 +27,7 @@ fn condition(c: Condition) {
             say::text(b"sending bit ");
             say::number(bit);
         }
-        Condition::Matching { bit } => {
+        Condition::Matching { bit, fallback: _ } => {
             say::text(b"matching bit ");
             say::number(bit);
         }
@@ -35,6 +37,29 @@ fn condition(c: Condition) {
             slot(s);
         }
         Condition::Selected => say::text(b"selected"),
+    }
+}
+
+fn falls_back(c: Condition) -> bool {
+    match c {
+        Condition::Matching { bit: _, fallback } => fallback == STANDARD,
+        _ => false,
+    }
+}
+
+// A probe at overdrive that goes to standard speed where it differs matches because of 69.
+fn by_69(p: Probe) {
+    let c = p.condition;
+    if p.speed == OVERDRIVE {
+        if falls_back(c) {
+            say::text(b" by 69");
+        }
+    }
+}
+
+fn speed(s: u8) {
+    if s == OVERDRIVE {
+        say::text(b", overdrive");
     }
 }
 
@@ -53,9 +78,11 @@ fn probe(line: Line, i: usize) {
     say::text(b": ");
     let c = p.condition;
     condition(c);
+    by_69(p);
     if p.marked {
         say::text(b", marked");
     }
+    speed(p.speed);
     say::end();
 }
 

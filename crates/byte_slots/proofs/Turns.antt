@@ -1,7 +1,7 @@
 -- One turn of a loop.
 --   tookBits-next, slots-next     a loop over the bits of a byte, counting down
 --   meet-next                     a loop over the probes
---   gathered n y x l              the byte y once the levels of n slots with the low bits of x have gone in at its top
+--   gathered v n y x l            the byte y once the levels of n slots at the speed v with the low bits of x have gone in at its top
 --   gathered-next                 one level more
 --   gathered-levels               eight levels that go into 0 are the levels, low bit first
 use mathlib.Core.Path.{_≡_, refl, ap, _∙_}
@@ -27,38 +27,38 @@ unfolding tookBits
 tookBits-next zero x p h = absurd (omega arith)
 tookBits-next (suc n) x p h = step (λ (k : ℕ). tookBits k (x / 2) (took (eqb (x % 2) 1) p)) n
 
-pub slots-next : (n x : ℕ) (l : Line) → 0 < n → slots (n - 1) (x / 2) (slot (eqb (x % 2) 1) l) ≡ slots n x l
+pub slots-next : (v n x : ℕ) (l : Line) → 0 < n → slots v (n - 1) (x / 2) (slot v (eqb (x % 2) 1) l) ≡ slots v n x l
 unfolding slots
-slots-next zero x l h = absurd (omega arith)
-slots-next (suc n) x l h = step (λ (k : ℕ). slots k (x / 2) (slot (eqb (x % 2) 1) l)) n
+slots-next v zero x l h = absurd (omega arith)
+slots-next v (suc n) x l h = step (λ (k : ℕ). slots v k (x / 2) (slot v (eqb (x % 2) 1) l)) n
 
 -- ---- levels that go in at the top of a byte
 
-unfoldable pub gathered : ℕ → ℕ → ℕ → Line → ℕ
-gathered zero y x l = y
-gathered (suc n) y x l = gathered n (y / 2 + digit (level (eqb (x % 2) 1) l) * 128) (x / 2) (slot (eqb (x % 2) 1) l)
+unfoldable pub gathered : ℕ → ℕ → ℕ → ℕ → Line → ℕ
+gathered v zero y x l = y
+gathered v (suc n) y x l = gathered v n (y / 2 + digit (level v (eqb (x % 2) 1) l) * 128) (x / 2) (slot v (eqb (x % 2) 1) l)
 
-pub gathered-next : (n y x : ℕ) (l : Line) → 0 < n
-    → gathered (n - 1) (y / 2 + digit (level (eqb (x % 2) 1) l) * 128) (x / 2) (slot (eqb (x % 2) 1) l) ≡ gathered n y x l
+pub gathered-next : (v n y x : ℕ) (l : Line) → 0 < n
+    → gathered v (n - 1) (y / 2 + digit (level v (eqb (x % 2) 1) l) * 128) (x / 2) (slot v (eqb (x % 2) 1) l) ≡ gathered v n y x l
 unfolding gathered
-gathered-next zero y x l h = absurd (omega arith)
-gathered-next (suc n) y x l h =
-    step (λ (k : ℕ). gathered k (y / 2 + digit (level (eqb (x % 2) 1) l) * 128) (x / 2) (slot (eqb (x % 2) 1) l)) n
+gathered-next v zero y x l h = absurd (omega arith)
+gathered-next v (suc n) y x l h =
+    step (λ (k : ℕ). gathered v k (y / 2 + digit (level v (eqb (x % 2) 1) l) * 128) (x / 2) (slot v (eqb (x % 2) 1) l)) n
 
 -- n + 1 levels come to stand k places above bit 0, and what was in the byte moves down
-gathered-at : (n k y x : ℕ) (l : Line) → 2 ^ k * 2 ^ n ≡ 128 → gathered (suc n) y x l ≡ y / 2 ^ suc n + 2 ^ k * levels (suc n) x l
+gathered-at : (v n k y x : ℕ) (l : Line) → 2 ^ k * 2 ^ n ≡ 128 → gathered v (suc n) y x l ≡ y / 2 ^ suc n + 2 ^ k * levels v (suc n) x l
 unfolding gathered levels
-gathered-at zero k y x l w =
-    omega arith ∙ moved-down 0 (2 ^ k) y (digit (level (eqb (x % 2) 1) l)) 0 w
-gathered-at (suc n) k y x l w =
-    let d = digit (level (eqb (x % 2) 1) l) in
-    let m = levels (suc n) (x / 2) (slot (eqb (x % 2) 1) l) in
-    gathered-at n (k + 1) (y / 2 + d * 128) (x / 2) (slot (eqb (x % 2) 1) l) (moved-weight k n w)
+gathered-at v zero k y x l w =
+    omega arith ∙ moved-down 0 (2 ^ k) y (digit (level v (eqb (x % 2) 1) l)) 0 w
+gathered-at v (suc n) k y x l w =
+    let d = digit (level v (eqb (x % 2) 1) l) in
+    let m = levels v (suc n) (x / 2) (slot v (eqb (x % 2) 1) l) in
+    gathered-at v n (k + 1) (y / 2 + d * 128) (x / 2) (slot v (eqb (x % 2) 1) l) (moved-weight k n w)
     ∙ ap (λ (q : ℕ). (y / 2 + d * 128) / 2 ^ suc n + q * m) (doubled k)
     ∙ moved-down (suc n) (2 ^ k) y d m w
 
-pub gathered-levels : (x : ℕ) (l : Line) → gathered 8 0 x l ≡ levels 8 x l
-gathered-levels x l = gathered-at 7 0 0 x l refl ∙ omega arith
+pub gathered-levels : (v x : ℕ) (l : Line) → gathered v 8 0 x l ≡ levels v 8 x l
+gathered-levels v x l = gathered-at v 7 0 0 x l refl ∙ omega arith
 
 -- ---- what all probes have in common
 

@@ -1,7 +1,8 @@
 // The eight slots of a byte, in one go where that is the same as slot after slot.
 //
 // A line on which every probe rests is given back as it is. What a probe sends in the eight slots to come is mostly settled before they
-// begin. Where it is for every probe, the levels are found first and each probe takes all of them at once.
+// begin, and whether they reach it. Where that is so for every probe, and no slot passes by one that is awake, the levels are found first
+// and each probe takes all of them at once.
 //
 // Worked example: a line of two probes that send their IDs, the next eight bits of one being 3Fh and of the other F5h, reads as 35h.
 use line::Line;
@@ -34,16 +35,27 @@ const SEARCHING: Condition = Condition::Searching {
 // The number of a bit from which eight are left.
 const LAST_EIGHT: u8 = 56;
 
-// What the probe sends in the next eight slots does not depend on their levels.
-fn foreseen(p: Probe) -> bool
-    ensures { λ r. ⌜ r ≡ foreseen 8 p ⌝ }
+// The next eight slots at this speed all reach the probe, and what it sends in them does not depend on their levels; or it rests.
+fn foreseen(p: Probe, speed: u8) -> bool
+    ensures { λ r. ⌜ r ≡ foreseen speed 8 p ⌝ }
 {
     let condition = p.condition;
     match condition {
         Condition::Deaf => true,
-        Condition::Taking { count, code: _ } => count == 0,
-        Condition::Sending { bit } => bit <= LAST_EIGHT,
-        Condition::Matching { bit: _ } => true,
+        Condition::Taking { count, code: _ } => {
+            if count == 0 { p.reached(speed) } else { false }
+        }
+        Condition::Sending { bit } => {
+            if bit <= LAST_EIGHT {
+                p.reached(speed)
+            } else {
+                false
+            }
+        }
+        Condition::Matching {
+            bit: _,
+            fallback: _,
+        } => p.reached(speed),
         Condition::Searching { bit: _, slot: _ } => false,
         Condition::Selected => true,
     }
@@ -69,7 +81,10 @@ fn ahead(p: Probe) -> u8
         Condition::Deaf => 255,
         Condition::Taking { count: _, code: _ } => 255,
         Condition::Sending { bit } => eight_bits(p.id, bit),
-        Condition::Matching { bit: _ } => 255,
+        Condition::Matching {
+            bit: _,
+            fallback: _,
+        } => 255,
         Condition::Searching { bit: _, slot: _ } => 255,
         Condition::Selected => 255,
     }
@@ -82,8 +97,22 @@ fn begun(p: Probe, condition: Condition) -> Probe
     Probe {
         id: p.id,
         marked: false,
+        speed: p.speed,
         condition,
     }
+}
+
+// Match ROM: one that differs keeps its speed.
+fn begun_match(p: Probe) -> Probe
+    ensures { λ r. ⌜ r ≡ withMark p false (Matching 0 (p .speed)) ⌝ }
+{
+    begun(
+        p,
+        Condition::Matching {
+            bit: 0,
+            fallback: p.speed,
+        },
+    )
 }
 
 // A probe that goes on with it: its mark stays.
@@ -93,6 +122,7 @@ fn gone_on(p: Probe, condition: Condition) -> Probe
     Probe {
         id: p.id,
         marked: p.marked,
+        speed: p.speed,
         condition,
     }
 }
@@ -113,8 +143,8 @@ fn took_bits(before: Probe, byte: u8) -> Probe
 }
 
 // One that matches its ID goes on by eight bits if all of them agree.
-fn took_matching(p: Probe, bit: u8, byte: u8) -> Probe
-    requires { ⌜ p .condition ≡ Matching bit ⌝ }
+fn took_matching(p: Probe, bit: u8, fallback: u8, byte: u8) -> Probe
+    requires { ⌜ p .condition ≡ Matching bit fallback ⌝ }
     ensures { λ r. ⌜ r ≡ tookBits 8 byte p ⌝ }
 {
     if LAST_EIGHT < bit {
@@ -124,19 +154,23 @@ fn took_matching(p: Probe, bit: u8, byte: u8) -> Probe
         return Probe {
             id: p.id,
             marked: p.marked,
+            speed: fallback,
             condition: Condition::Deaf,
         };
     }
     if bit < LAST_EIGHT {
-        Probe {
-            id: p.id,
-            marked: p.marked,
-            condition: Condition::Matching { bit: bit + 8 },
-        }
+        gone_on(
+            p,
+            Condition::Matching {
+                bit: bit + 8,
+                fallback,
+            },
+        )
     } else {
         Probe {
             id: p.id,
             marked: true,
+            speed: p.speed,
             condition: Condition::Selected,
         }
     }
@@ -164,15 +198,15 @@ struct Prospect {
     levels: u8,
 }
 
-fn outlook(line: Line, byte: u8) -> Prospect
-    ensures { λ r. ⌜ (r .settled ≡ true → (all (foreseen 8) (fitted line) ≡ true) × (r .levels ≡ meet 8 byte (fitted line))) ⌝ }
+fn outlook(line: Line, speed: u8, byte: u8) -> Prospect
+    ensures { λ r. ⌜ (r .settled ≡ true → (all (foreseen speed 8) (fitted line) ≡ true) × (r .levels ≡ meet 8 byte (fitted line))) ⌝ }
 {
     let n = line.entries();
     let mut levels = byte;
     let mut i = 0;
     while i < n {
         let p = line.probes[i];
-        if !foreseen(p) {
+        if !foreseen(p, speed) {
             return Prospect {
                 settled: false,
                 levels,
@@ -187,7 +221,7 @@ fn outlook(line: Line, byte: u8) -> Prospect
     }
 }
 
-// Every probe takes eight levels, the bits of a byte. A code of which no bit has come yet is the byte. Each outcome that is met often has
+// Every probe takes eight levels that reach it, the bits of a byte. A code of which no bit has come yet is the byte. Each outcome that is met often has
 // an assignment of its own, since one place that stores what several ways have made waits for the memory.
 fn taken_byte(mut line: Line, byte: u8) -> Line
     ensures { λ r. ⌜ r ≡ onFitted (tookBits 8 byte) line ⌝ }
@@ -204,7 +238,7 @@ fn taken_byte(mut line: Line, byte: u8) -> Line
             Condition::Taking { count, code: _ } => match count {
                 0 => match byte {
                     READ_ROM => line.probes[at] = begun(p, Condition::Sending { bit: 0 }),
-                    MATCH_ROM => line.probes[at] = begun(p, Condition::Matching { bit: 0 }),
+                    MATCH_ROM => line.probes[at] = begun_match(p),
                     SEARCH_ROM => line.probes[at] = begun(p, SEARCHING),
                     _ => line.probes[at] = p.obeyed(byte),
                 },
@@ -220,7 +254,12 @@ fn taken_byte(mut line: Line, byte: u8) -> Line
                     }
                 }
             }
-            Condition::Matching { bit } => line.probes[at] = took_matching(p, bit, byte),
+            Condition::Matching { bit, fallback } => line.probes[at] = took_matching(
+                p,
+                bit,
+                fallback,
+                byte,
+            ),
             Condition::Searching { bit: _, slot: _ } => line.probes[at] = took_bits(p, byte),
             Condition::Selected => {}
         }
@@ -235,16 +274,16 @@ fn with_level(byte: u8, level: bool) -> u8
     if level { byte / 2 + 128 } else { byte / 2 }
 }
 
-fn slot_by_slot(start: Line, byte: u8) -> Levels
-    ensures { λ r. ⌜ (r .byte ≡ levelsOf 8 byte start) × (r .line ≡ slotsOf 8 byte start) ⌝ }
+fn slot_by_slot(start: Line, speed: u8, byte: u8) -> Levels
+    ensures { λ r. ⌜ (r .byte ≡ levelsOf speed 8 byte start) × (r .line ≡ slotsOf speed 8 byte start) ⌝ }
 {
     let mut line = start;
     let mut rest = byte;
     let mut levels: u8 = 0;
     let mut left: u8 = 8;
     while 0 < left {
-        let level = line.level(rest % 2 == 1);
-        line = line.taken(level);
+        let level = line.level(speed, rest % 2 == 1);
+        line = line.taken(speed, level);
         levels = with_level(levels, level);
         rest = rest / 2;
         left -= 1;
@@ -252,20 +291,20 @@ fn slot_by_slot(start: Line, byte: u8) -> Levels
     Levels { byte: levels, line }
 }
 
-// Eight slots with the bits of a byte, low bit first.
-pub fn slots(line: Line, byte: u8) -> Levels
-    ensures { λ r. ⌜ (r .byte ≡ levelsOf 8 byte line) × (r .line ≡ slotsOf 8 byte line) ⌝ }
+// Eight slots at this speed with the bits of a byte, low bit first.
+pub fn slots(line: Line, speed: u8, byte: u8) -> Levels
+    ensures { λ r. ⌜ (r .byte ≡ levelsOf speed 8 byte line) × (r .line ≡ slotsOf speed 8 byte line) ⌝ }
 {
     if all_rest(line) {
         return Levels { byte, line };
     }
-    let ahead = outlook(line, byte);
+    let ahead = outlook(line, speed, byte);
     if ahead.settled {
         Levels {
             byte: ahead.levels,
             line: taken_byte(line, ahead.levels),
         }
     } else {
-        slot_by_slot(line, byte)
+        slot_by_slot(line, speed, byte)
     }
 }

@@ -18,14 +18,14 @@ use lib.Seq.{take-take, take-all}
 use Rattle.identity.specs.Identity.{numberOf}
 use Rattle.probe.specs.declared.Condition.the-variants.{Deaf, Selected}
 use Rattle.probe.specs.declared.Probe.{Probe}
-use Rattle.probe.specs.Probe.{deafNew, obeyed, resumed}
+use Rattle.probe.specs.Probe.{standard, deafNew, atSpeed, obeyed, resumed}
 use Rattle.line.specs.declared.Line.{Line}
 use Rattle.line.specs.Line.{fitted, idOf, idsOf, fitNumber}
 use Rattle.withdrawal.specs.Withdrawal.{others, lineWith, without, withdrawNumber}
 use Rattle.bridge.specs.declared.Bridge.{Bridge}
 use Rattle.bridge.specs.declared.Pending.{Pending}
 use Rattle.bridge.specs.declared.Pending.the-variants.{Nothing, Reset}
-use Rattle.bridge.specs.Bridge.{isPending, pended, withRegisters, accepted, bytesOf, takenWhileBusy, goodParameter, writeNumber, afterWrite, finishedReset, finishedOf, afterTime, command, afterFitting, afterWithdrawal}
+use Rattle.bridge.specs.Bridge.{isPending, speedOf, pended, withRegisters, accepted, bytesOf, takenWhileBusy, goodParameter, writeNumber, afterWrite, finishedReset, finishedOf, afterTime, command, afterFitting, afterWithdrawal}
 use Rattle.bridge.specs.Reached.{Bytes, Reached}
 use Rattle.bridge.specs.Reached.Reached.{fit, withdraw}
 use Rattle.pass.specs.Passes.{search}
@@ -33,7 +33,7 @@ use Rattle.enumeration.specs.Order.{Among, Narrow, InOrder}
 use Rattle.enumeration.proofs.Tree.{begins, sorted}
 use Rattle.enumeration.proofs.Order.{in-order-more, length-parted}
 use Rattle.enumeration.proofs.Leaves.{sorted-in-order, begins-whole}
-use Rattle.searching.proofs.Words.{Rest, lineOf, gathered, markedSelected, standing, Facts}
+use Rattle.searching.proofs.Words.{Rest, lineOf, commanded, gathered, markedSelected, standing, Facts}
 use Rattle.searching.proofs.Words.Rest.{free}
 use Rattle.searching.proofs.Wire.{fitted-lineOf, id-standing}
 use Rattle.searching.proofs.Holds.{obeyed-id, holds-command}
@@ -60,31 +60,31 @@ take-longer m n l h = sym (take-append-drop m (take n l)) ∙ ap (λ (p : List �
 -- ---- Resume
 
 -- the probe that a pass ended at is marked, and no other
-resumed-condition : (x i : ℕ) → i < 2 ^ 64 → obeyed 0xA5 (standing 64 x i) .condition ≡ cond (eqb i x) Selected Deaf
+resumed-condition : (x i : ℕ) → i < 2 ^ 64 → commanded 0xA5 (standing 64 x i) .condition ≡ cond (eqb i x) Selected Deaf
 unfolding standing obeyed resumed
 resumed-condition x i lt = go (begins 64 x i) ∙ ap (λ (t : Bool). cond t Selected Deaf) (begins-whole x i lt)
   where
-    go : (t : Bool) → obeyed 0xA5 (cond t (markedSelected i) (deafNew i)) .condition ≡ cond t Selected Deaf
+    go : (t : Bool) → commanded 0xA5 (cond t (markedSelected i) (deafNew i)) .condition ≡ cond t Selected Deaf
     go true = refl
     go false = refl
 
 -- all fitted probes obeyed the Resume
-resumed-line : (x : ℕ) (ids : List ℕ) (rest : Rest) (l : Line) → Narrow ids → Among x (idsOf l) → l ≡ lineOf (map (obeyed 0xA5) (map (standing 64 x) ids)) rest → Resumed x l
+resumed-line : (x : ℕ) (ids : List ℕ) (rest : Rest) (l : Line) → Narrow ids → Among x (idsOf l) → l ≡ lineOf (map (commanded 0xA5) (map (standing 64 x) ids)) rest → Resumed x l
 resumed-line x ids rest l narrow there e =
     record {
       there = there;
       only =
           λ p m.
-          let q = Memᴰ·of-map (obeyed 0xA5) (map (standing 64 x) ids) (subst (Among p) (ap fitted e ∙ fitted-lineOf _ rest) m) in
+          let q = Memᴰ·of-map (commanded 0xA5) (map (standing 64 x) ids) (subst (Among p) (ap fitted e ∙ fitted-lineOf _ rest) m) in
           let j = Memᴰ·of-map (standing 64 x) ids (q .1) in
-          go p (j .0) (ap (obeyed 0xA5) (j .2) ∙ q .2) (narrow (j .0) (j .1));
+          go p (j .0) (ap (commanded 0xA5) (j .2) ∙ q .2) (narrow (j .0) (j .1));
     }
   where
-    go : (p : Probe) (i : ℕ) → obeyed 0xA5 (standing 64 x i) ≡ p → i < 2 ^ 64 → p .condition ≡ cond (eqb (p .id) x) Selected Deaf
+    go : (p : Probe) (i : ℕ) → commanded 0xA5 (standing 64 x i) ≡ p → i < 2 ^ 64 → p .condition ≡ cond (eqb (p .id) x) Selected Deaf
     go p i f lt =
         ap (λ (v : Probe). v .condition) (sym f) ∙ resumed-condition x i lt
         ∙ ap (λ (j : ℕ). cond (eqb j x) Selected Deaf)
-        (sym (id-standing 64 x i) ∙ sym (obeyed-id 0xA5 (standing 64 x i)) ∙ ap idOf f)
+        (sym (id-standing 64 x i) ∙ sym (obeyed-id 0xA5 (atSpeed standard (standing 64 x i))) ∙ ap idOf f)
 
 -- with nothing pending the reset is accepted, and then the Resume
 reset-accepted : (s : Bridge) → s .registers .pending ≡ Nothing → writeNumber (0xB4 ∷ []) s ≡ 0
@@ -95,25 +95,25 @@ resume-accepted : (s : Bridge) → s .registers .pending ≡ Nothing → writeNu
 unfolding writeNumber bytesOf takenWhileBusy goodParameter
 resume-accepted s e = ap (λ (p : Pending). cond {A = ℕ} (cond (isPending p) true false) 6 0) e
 
-reset-done : (s : Bridge) → s .registers .pending ≡ Nothing → command (0xB4 ∷ []) s .registers .pending ≡ Nothing
+pub reset-done : (s : Bridge) → s .registers .pending ≡ Nothing → command (0xB4 ∷ []) s .registers .pending ≡ Nothing
 unfolding command afterWrite accepted afterTime finishedOf finishedReset
 reset-done s e = ap (λ (n : ℕ). afterTime (cond (eqb n 0) (withRegisters (pended Reset (s .registers)) s) s) .registers .pending) (reset-accepted s e)
 
 -- a probe without a mark is deaf after a Resume
-pub unmarked-deaf : (q : Probe) → q .marked ≡ false → obeyed 0xA5 q .condition ≡ Deaf
+pub unmarked-deaf : (q : Probe) → q .marked ≡ false → commanded 0xA5 q .condition ≡ Deaf
 unfolding obeyed resumed
 unmarked-deaf q e = ap (λ (t : Bool). cond t Selected Deaf) e
 
-pub resume-none : (s : Bridge) (ps : List Probe) (rest : Rest) → s .line ≡ lineOf ps rest → s .registers .pending ≡ Nothing → ((q : Probe) → Among q ps → q .marked ≡ false) → ResumesNone s
+pub resume-none : (s : Bridge) (ps : List Probe) (rest : Rest) → s .line ≡ lineOf ps rest → s .registers .pending ≡ Nothing → speedOf (s .registers) ≡ standard → ((q : Probe) → Among q ps → q .marked ≡ false) → ResumesNone s
 unfolding gathered
-resume-none s ps rest e idle unmarked =
+resume-none s ps rest e idle speed unmarked =
     record {
       resetAccepted = reset-accepted s idle;
       resumeAccepted = resume-accepted (command (0xB4 ∷ []) s) (reset-done s idle);
       selectsNone =
           λ p m.
-          let after = ap fitted (commanded-line s ps rest e idle 0xA5) ∙ fitted-lineOf (map (obeyed 0xA5) ps) rest in
-          let q = Memᴰ·of-map (obeyed 0xA5) ps (subst (Among p) after m) in
+          let after = ap fitted (commanded-line s ps rest e idle speed 0xA5) ∙ fitted-lineOf (map (commanded 0xA5) ps) rest in
+          let q = Memᴰ·of-map (commanded 0xA5) ps (subst (Among p) after m) in
           ap (λ (v : Probe). v .condition) (sym (q .2)) ∙ unmarked-deaf (q .0) (unmarked (q .0) (q .1));
     }
 
@@ -201,7 +201,7 @@ module _ (s : Bridge) (r : Reached s) where
       let c = found b .closing p x e in
       resumed-line x (stock .ids) (free (stock .entries)) (afterResume (search b s .bridge) .line) (stock .narrow)
       (subst⁻¹ (Among x) (resume-kept b) (listed-there b p x e))
-      (commanded-line (search b s .bridge) (map (standing 64 x) (stock .ids)) (free (stock .entries)) (c .0) (c .1) 0xA5)
+      (commanded-line (search b s .bridge) (map (standing 64 x) (stock .ids)) (free (stock .entries)) (c .0) (c .1) (c .2) 0xA5)
 
   pub resume-last : (b : ℕ) → 0 < length (search b s .ids) → (p : List ℕ) × (x : ℕ) × (search b s .ids ≡ p ++ x ∷ []) × Resumes x (search b s .bridge)
   resume-last b h =
@@ -230,7 +230,7 @@ module _ (s : Bridge) (r : Reached s) where
       ∙ ap (λ (ps : List Probe). lineWith (others i ps))
       (ap fitted (c .0) ∙ fitted-lineOf (map (standing 64 i) (stock .ids)) (free (stock .entries))) in (
         there,
-        resume-none (afterWithdrawal x t) (others i (map (standing 64 i) (stock .ids))) (free _) left (c .1)
+        resume-none (afterWithdrawal x t) (others i (map (standing 64 i) (stock .ids))) (free _) left (c .1) (c .2)
             (without-unmarked i (stock .ids) (stock .narrow)),
       )
 

@@ -15,19 +15,19 @@ use lib.ListN.{length, take-append-drop, length-map, drop}
 use Rattle.identity.specs.Identity.{numberOf, refusalOf}
 use Rattle.probe.specs.declared.Condition.the-variants.{Deaf}
 use Rattle.probe.specs.declared.Probe.{Probe}
-use Rattle.probe.specs.Probe.{deafNew, obeyed}
+use Rattle.probe.specs.Probe.{standard, deafNew, atSpeed}
 use Rattle.line.specs.declared.Line.{Line}
 use Rattle.line.specs.Line.{any, bare, fitted, idOf, idsOf, isFitted, placeNumber, fitNumber}
 use Rattle.withdrawal.specs.Withdrawal.{lineWith, without, withdrawNumber, afterWithdraw}
 use Rattle.withdrawal.proofs.Others.{not-fitted}
 use Rattle.bridge.specs.declared.Bridge.{Bridge}
 use Rattle.bridge.specs.declared.Pending.the-variants.{Nothing}
-use Rattle.bridge.specs.Bridge.{afterFitting, afterWithdrawal, onLine}
+use Rattle.bridge.specs.Bridge.{speedOf, afterFitting, afterWithdrawal, onLine}
 use Rattle.bridge.specs.Reached.{Bytes, Reached}
 use Rattle.bridge.specs.Reached.Reached.{withdraw}
 use Rattle.enumeration.specs.Order.{Among}
 use Rattle.enumeration.proofs.Order.{length-parted}
-use Rattle.searching.proofs.Words.{gathered}
+use Rattle.searching.proofs.Words.{commanded, gathered}
 use Rattle.searching.proofs.Wire.{line-path, lineOf-parts, fitted-lineOf}
 use Rattle.searching.proofs.Holds.{obeyed-id}
 use Rattle.searching.proofs.Pass.{commanded-line}
@@ -36,6 +36,7 @@ use Rattle.demand.specs.Demand.{idsAt, afterResume}
 use Rattle.demand.specs.Swaps.{Gone, fittedAt, Swaps}
 use Rattle.demand.proofs.Withdrawn.{among-any, withdrawn-line, withdrawn-when}
 use Rattle.demand.proofs.Reached.{reached-kept, fitted-fit}
+use Rattle.demand.proofs.New.{New, new-resumed}
 use Rattle.demand.proofs.Search.{unmarked-deaf, sound, at-most, parted-at, ids-fewer}
 
 -- ---- the number
@@ -143,19 +144,35 @@ module _ (s : Bridge) (r : Reached s) (x : List ℕ) (e : withdrawNumber x (s .l
   unfolding afterFitting afterWithdrawal
   still idle = idle
 
-  -- of the probes that obeyed the Resume it alone has its ID, and it has no mark
-  not-resumed : Bytes x → length x ≡ 8 → s .registers .pending ≡ Nothing → (p : Probe) → Among p (fittedAt (afterResume (afterFitting x (afterWithdrawal x s)))) → p .id ≡ numberOf x → p .condition ≡ Deaf
-  unfolding gathered
-  not-resumed small eight idle p m f =
+  -- it alone has its ID, and it is new
+  alone : Bytes x → length x ≡ 8 → New (numberOf x) (afterFitting x (afterWithdrawal x s) .line)
+  alone small eight q m same =
+      ⊎-elim (λ y. absurd (not-left (Memᴰ·cast (sym same) (its-id (afterWithdrawal x s) y)))) List·Memᴰ·eq-of-singleton
+      (List·Memᴰ·append-cases (fittedAt (afterWithdrawal x s)) (subst (Among q) (behind small eight) m))
+
+  -- at standard speed it obeyed the Resume, without a mark
+  at-standard : Bytes x → length x ≡ 8 → s .registers .pending ≡ Nothing → speedOf (s .registers) ≡ standard → (p : Probe) → Among p (fittedAt (afterResume (afterFitting x (afterWithdrawal x s)))) → p .id ≡ numberOf x → p .condition ≡ Deaf
+  unfolding gathered afterFitting afterWithdrawal
+  at-standard small eight idle speed p m f =
       let t = afterFitting x (afterWithdrawal x s) in
       let parts = lineOf-parts (t .line) in
-      let after = ap fitted (commanded-line t (fittedAt t) (parts .0) (parts .1) (still idle) 0xA5) ∙ fitted-lineOf (map (obeyed 0xA5) (fittedAt t)) (parts .0) in
-      let q = Memᴰ·of-map (obeyed 0xA5) (fittedAt t) (subst (Among p) after m) in
-      let same : q .0 .id ≡ numberOf x = sym (obeyed-id 0xA5 (q .0)) ∙ ap idOf (q .2) ∙ f in
-      ap (λ (v : Probe). v .condition) (sym (q .2))
-      ∙ unmarked-deaf (q .0)
-      (⊎-elim (λ y. absurd (not-left (Memᴰ·cast (sym same) (its-id (afterWithdrawal x s) y)))) (λ y. ap (λ (v : Probe). v .marked) (List·Memᴰ·eq-of-singleton y))
-      (List·Memᴰ·append-cases (fittedAt (afterWithdrawal x s)) (subst (Among (q .0)) (behind small eight) (q .1))))
+      let after = ap fitted (commanded-line t (fittedAt t) (parts .0) (parts .1) (still idle) speed 0xA5) ∙ fitted-lineOf (map (commanded 0xA5) (fittedAt t)) (parts .0) in
+      let q = Memᴰ·of-map (commanded 0xA5) (fittedAt t) (subst (Among p) after m) in
+      let same : q .0 .id ≡ numberOf x = sym (obeyed-id 0xA5 (atSpeed standard (q .0))) ∙ ap idOf (q .2) ∙ f in
+      ap (λ (v : Probe). v .condition) (sym (q .2)) ∙ unmarked-deaf (q .0) (ap (λ (v : Probe). v .marked) (alone small eight (q .0) (q .1) same))
+
+  -- at overdrive neither reset nor Resume reached it
+  at-overdrive : Bytes x → length x ≡ 8 → s .registers .pending ≡ Nothing → eqb (speedOf (s .registers)) standard ≡ false → (p : Probe) → Among p (fittedAt (afterResume (afterFitting x (afterWithdrawal x s)))) → p .id ≡ numberOf x → p .condition ≡ Deaf
+  unfolding afterFitting afterWithdrawal
+  at-overdrive small eight idle speed p m f =
+      ap (λ (v : Probe). v .condition) (new-resumed (numberOf x) (afterFitting x (afterWithdrawal x s)) (still idle) speed (alone small eight) p m f)
+
+  not-resumed : Bytes x → length x ≡ 8 → s .registers .pending ≡ Nothing → (p : Probe) → Among p (fittedAt (afterResume (afterFitting x (afterWithdrawal x s)))) → p .id ≡ numberOf x → p .condition ≡ Deaf
+  not-resumed small eight idle p m f = go (eqb (speedOf (s .registers)) standard) refl
+    where
+      go : (t : Bool) → eqb (speedOf (s .registers)) standard ≡ t → p .condition ≡ Deaf
+      go true e = at-standard small eight idle (eqb-true _ _ e) p m f
+      go false e = at-overdrive small eight idle e p m f
 
 -- ---- the sentences of R-3
 

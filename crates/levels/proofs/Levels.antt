@@ -77,7 +77,7 @@ module _ (ids : List ℕ) (entries : List Probe) where
       go ids
       (ap (ltb 0)
       (ap length (sym (t .holds .same)) ∙ length-map (t .holds .probes) idOf ∙ sym (ap (λ (l : Line). l .count) (t .holds .line)))
-      ∙ sym (reset-ppd s (t .idle)) ∙ p)
+      ∙ sym (reset-ppd s (t .idle) (t .speed)) ∙ p)
     where
       go : (l : List ℕ) → ltb 0 (length l) ≡ true → has l 0 0 ≡ true
       go [] e = absurd (false≢true e)

@@ -1,14 +1,15 @@
--- The line: probes on one wire (document 01, "Probe identities", "The probes" and "Numbers returned").
+-- The line: probes on one wire (document 01, "Probe identities", "The probes" and "Numbers returned", and document 02, R-2). Slots and
+-- resets come at a speed v, the bridge's.
 --   bare               the line with no probe
 --   fitted l           the probes on the line, in the order in which they came
 --   idsOf l            their IDs
 --   onFitted f l       the line with f done to each of them
---   level w l          what the wire carries in a slot in which the bridge writes w
---   slot w l           the line after that slot
---   slots n x l        the line after n slots with the low n bits of x, low bit first
---   levels n x l       the levels of those slots as a number, the first in the low bit
---   resetAll l         the line after a 1-Wire reset
---   present l          some probe is fitted
+--   level v w l        what the wire carries in a slot in which the bridge writes w
+--   slot v w l         the line after that slot
+--   slots v n x l      the line after n slots with the low n bits of x, low bit first
+--   levels v n x l     the levels of those slots as a number, the first in the low bit
+--   afterReset v l     the line after a 1-Wire reset
+--   present v l        some probe answers that reset
 --   fitNumber x l      the number that fitting the ID of the bytes x gives
 --   afterFit x l       the line after that
 use Prim.Native.Nat.{ℕ, zero, suc, _+_, _*_, _/_, _%_}
@@ -18,7 +19,7 @@ use lib.Dec.{eqb, leb, ltb}
 use lib.ListN.{take, drop, set, replicate}
 use Rattle.identity.specs.Identity.{numberOf, refusalOf}
 use Rattle.probe.specs.declared.Probe.{Probe}
-use Rattle.probe.specs.Probe.{deafNew, sends, took, reset, digit}
+use Rattle.probe.specs.Probe.{standard, deafNew, reaches, sendsAt, tookAt, reset, digit}
 use Rattle.line.specs.declared.Line.{Line}
 
 -- Every element passes the test; some element does.
@@ -49,28 +50,29 @@ unfoldable pub onFitted : (Probe → Probe) → Line → Line
 onFitted f l = record { probes = map f (fitted l) ++ drop (l .count) (l .probes); count = l .count }
 
 -- The level is 0 if the bridge writes 0 or any probe sends 0, else 1.
-unfoldable pub level : Bool → Line → Bool
-level w l = cond w (all sends (fitted l)) false
+unfoldable pub level : ℕ → Bool → Line → Bool
+level v w l = cond w (all (sendsAt v) (fitted l)) false
 
--- Every probe takes the level.
-unfoldable pub slot : Bool → Line → Line
-slot w l = onFitted (took (level w l)) l
+-- Every probe that the slot reaches takes the level.
+unfoldable pub slot : ℕ → Bool → Line → Line
+slot v w l = onFitted (tookAt v (level v w l)) l
 
 -- Several slots, in which the bridge writes the low n bits of x, low bit first.
-unfoldable pub slots : ℕ → ℕ → Line → Line
-slots zero x l = l
-slots (suc n) x l = slots n (x / 2) (slot (eqb (x % 2) 1) l)
+unfoldable pub slots : ℕ → ℕ → ℕ → Line → Line
+slots v zero x l = l
+slots v (suc n) x l = slots v n (x / 2) (slot v (eqb (x % 2) 1) l)
 
 -- Their levels, the first in the low bit.
-unfoldable pub levels : ℕ → ℕ → Line → ℕ
-levels zero x l = 0
-levels (suc n) x l = digit (level (eqb (x % 2) 1) l) + 2 * levels n (x / 2) (slot (eqb (x % 2) 1) l)
+unfoldable pub levels : ℕ → ℕ → ℕ → Line → ℕ
+levels v zero x l = 0
+levels v (suc n) x l = digit (level v (eqb (x % 2) 1) l) + 2 * levels v n (x / 2) (slot v (eqb (x % 2) 1) l)
 
-unfoldable pub resetAll : Line → Line
-resetAll l = onFitted reset l
+unfoldable pub afterReset : ℕ → Line → Line
+afterReset v l = onFitted (reset v) l
 
-unfoldable pub present : Line → Bool
-present l = ltb 0 (l .count)
+-- Every fitted probe answers a reset at standard speed; presence at overdrive is that of the probes at overdrive alone (R-2).
+unfoldable pub present : ℕ → Line → Bool
+present v l = cond (eqb v standard) (ltb 0 (l .count)) (any (reaches v) (fitted l))
 
 -- ---- fitting
 

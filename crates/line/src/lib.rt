@@ -1,17 +1,19 @@
-// The line: up to 64 probes on one wire (document 01, "Probe identities" and "The probes").
+// The line: up to 64 probes on one wire (document 01, "Probe identities" and "The probes", and document 02, R-2).
 //
 // In a slot the bridge writes a bit and each probe may send one; the level is 0 if the bridge writes 0 or any probe sends 0, else 1, and
-// every probe takes that level.
+// every probe takes that level. A slot comes at a speed and reaches the probes of that speed alone.
 //
 // Worked example: two probes that send 1 and 0 leave the line at 0 in a slot in which the bridge writes 1.
 use probe::Probe;
+use probe::STANDARD;
 ghost use mathlib.Core.Path.{_≡_};
 ghost use mathlib.Core.Bool.{cond};
 ghost use lib.Dec.{ltb};
 ghost use Prim.Native.Nat.{_<_, _≤_};
 ghost use lib.ListN.{length, take, drop};
-ghost use Rattle.line.specs.Line.{all, fitted, bare, onFitted, level, slot, resetAll, present, isFitted, fitNumber, withProbe, afterFit};
-ghost use Rattle.probe.specs.Probe.{sends, took, reset};
+ghost use Rattle.line.specs.Line.{all, any, fitted, bare, onFitted, level, slot, afterReset, present, isFitted};
+ghost use Rattle.line.specs.Line.{fitNumber, withProbe, afterFit};
+ghost use Rattle.probe.specs.Probe.{reaches, sendsAt, tookAt};
 
 // The numbers that fitting returns besides those of the ID itself ("Numbers returned").
 pub const DONE: u8 = 0;
@@ -53,13 +55,6 @@ impl Line {
         }
     }
 
-    // Some probe is fitted.
-    pub fn present(self) -> bool
-        ensures { λ r. ⌜ r ≡ present self ⌝ }
-    {
-        0 < self.count
-    }
-
     // How many entries are fitted. No line that calls reach has more than 64; with the bound the loops need no premise. The
     // last clause is the answer, the others are what a loop over the entries asks.
     pub fn entries(self) -> usize
@@ -71,32 +66,63 @@ impl Line {
         if count < MOST { count } else { MOST }
     }
 
-    // No probe sends 0.
-    fn all_send(self) -> bool
-        ensures { λ r. ⌜ r ≡ all sends (fitted self) ⌝ }
+    // Some probe is at this speed.
+    fn some_reached(self, speed: u8) -> bool
+        ensures { λ r. ⌜ r ≡ any (reaches speed) (fitted self) ⌝ }
     {
         let n = self.entries();
         let mut i = 0;
         while i < n {
             let p = self.probes[i];
-            if !p.sends() {
-                return false;
+            if p.reached(speed) {
+                return true;
             }
             i += 1;
+        }
+        false
+    }
+
+    // Some probe answers a 1-Wire reset at this speed.
+    pub fn present(self, speed: u8) -> bool
+        ensures { λ r. ⌜ r ≡ present speed self ⌝ }
+    {
+        if speed == STANDARD {
+            0 < self.count
+        } else {
+            self.some_reached(speed)
+        }
+    }
+
+    // No probe that slots at this speed reach sends 0. The entry of one that sends 0 is read again, so that the others' speeds are not read.
+    fn all_send(self, speed: u8) -> bool
+        ensures { λ r. ⌜ r ≡ all (sendsAt speed) (fitted self) ⌝ }
+    {
+        let n = self.entries();
+        let mut i = 0;
+        while i < n {
+            let at = i;
+            let p = self.probes[at];
+            i += 1;
+            if !p.sends() {
+                let sending = self.probes[at];
+                if sending.reached(speed) {
+                    return false;
+                }
+            }
         }
         true
     }
 
     // What the wire carries in a slot in which the bridge writes a bit.
-    pub fn level(self, write: bool) -> bool
-        ensures { λ r. ⌜ r ≡ level write self ⌝ }
+    pub fn level(self, speed: u8, write: bool) -> bool
+        ensures { λ r. ⌜ r ≡ level speed write self ⌝ }
     {
-        if write { self.all_send() } else { false }
+        if write { self.all_send(speed) } else { false }
     }
 
-    // Every probe takes the level. One that no slot changes is left alone.
-    pub fn taken(mut self, level: bool) -> Line
-        ensures { λ r. ⌜ r ≡ onFitted (took level) self ⌝ }
+    // Every probe that the slot reaches takes the level. One that it does not change is left alone.
+    pub fn taken(mut self, speed: u8, level: bool) -> Line
+        ensures { λ r. ⌜ r ≡ onFitted (tookAt speed level) self ⌝ }
     {
         let n = self.entries();
         let mut i = 0;
@@ -105,32 +131,34 @@ impl Line {
             let p = self.probes[at];
             i += 1;
             if !p.rests() {
-                self.probes[at] = p.took(level);
+                if p.reached(speed) {
+                    self.probes[at] = p.took(level);
+                }
             }
         }
         self
     }
 
     // One slot, in which the bridge writes a bit.
-    pub fn slot(self, write: bool) -> Slotted
-        ensures { λ r. ⌜ (r .level ≡ level write self) × (r .line ≡ slot write self) ⌝ }
+    pub fn slot(self, speed: u8, write: bool) -> Slotted
+        ensures { λ r. ⌜ (r .level ≡ level speed write self) × (r .line ≡ slot speed write self) ⌝ }
     {
-        let level = self.level(write);
+        let level = self.level(speed, write);
         Slotted {
             level,
-            line: self.taken(level),
+            line: self.taken(speed, level),
         }
     }
 
-    // A 1-Wire reset reaches every probe.
-    pub fn reset(mut self) -> Line
-        ensures { λ r. ⌜ r ≡ resetAll self ⌝ }
+    // The line after a 1-Wire reset at this speed.
+    pub fn reset(mut self, speed: u8) -> Line
+        ensures { λ r. ⌜ r ≡ afterReset speed self ⌝ }
     {
         let n = self.entries();
         let mut i = 0;
         while i < n {
             let p = self.probes[i];
-            self.probes[i] = p.reset();
+            self.probes[i] = p.reset(speed);
             i += 1;
         }
         self

@@ -5,9 +5,9 @@ use mathlib.Core.List.{List, [], _∷_}
 use Prim.Native.Nat.{ℕ}
 use lib.Dec.{lit<}
 use Rattle.identity.specs.Identity.{numberOf, refusalOf}
-use Rattle.probe.specs.Probe.{sends, sendsIn, took, tookIn, tookCode}
+use Rattle.probe.specs.Probe.{reaches, sends, sendsIn, sendsAt, took, tookIn, tookCode, tookAt, reset}
 use Rattle.line.specs.declared.Line.{Line}
-use Rattle.line.specs.Line.{bare, fitted, idsOf, isFitted, any, all, level, slot, onFitted, resetAll, present, placeNumber, withProbe, afterFit}
+use Rattle.line.specs.Line.{bare, fitted, idsOf, isFitted, any, all, level, slot, onFitted, afterReset, present, placeNumber, withProbe, afterFit}
 use Rattle.line.proofs.Places.{fitNumber-free, afterFit-done}
 use Rattle.bridge.specs.declared.Bridge.{Bridge}
 use Rattle.bridge.specs.Bridge.{powerOn, statusOf, readOf, busy, bytesOf, goodParameter, writeNumber, afterWrite, accepted, onLine}
@@ -37,12 +37,12 @@ unfolding placeNumber isFitted idsOf fitted any bare
 one-fitted x e = sym (afterFit-done x bare (fitNumber-free x bare e refl (lit< tt)))
 
 pub p10 : (x : List ℕ) → refusalOf x ≡ 0 → readOf (ready x) ≡ 0x0A
-unfolding afterFitting powerOn bare withProbe command afterTime finishedOf afterWrite writeNumber bytesOf goodParameter accepted finishedReset present resetAll onFitted fitted readOf statusOf
+unfolding afterFitting powerOn bare withProbe command afterTime finishedOf afterWrite writeNumber bytesOf goodParameter accepted finishedReset present afterReset onFitted fitted readOf statusOf
 p10 x e = ap (λ (l : Line). readOf (command (0xB4 ∷ []) (afterWrite (0xD2 ∷ 0xF0 ∷ []) (onLine l powerOn)))) (one-fitted x e)
 
 -- ---- P11: then a triplet with any parameter, time passes: EAh. The probe takes the slots as command bits and sends nothing.
 
 pub p11 : (x : List ℕ) → refusalOf x ≡ 0 → (d : ℕ) → readOf (command (0x78 ∷ d ∷ []) (ready x)) ≡ 0xEA
-unfolding afterFitting powerOn bare withProbe command afterTime finishedOf afterWrite writeNumber bytesOf goodParameter accepted finishedReset finishedTriplet present resetAll level slot onFitted all sends sendsIn took tookIn tookCode fitted readOf statusOf
+unfolding afterFitting powerOn bare withProbe command afterTime finishedOf afterWrite writeNumber bytesOf goodParameter accepted finishedReset finishedTriplet present afterReset level slot onFitted all reaches sends sendsIn sendsAt took tookIn tookCode tookAt reset fitted readOf statusOf
 p11 x e d =
     ap (λ (l : Line). readOf (command (0x78 ∷ d ∷ []) (command (0xB4 ∷ []) (afterWrite (0xD2 ∷ 0xF0 ∷ []) (onLine l powerOn))))) (one-fitted x e)

@@ -1,13 +1,14 @@
-// One probe on the line (document 01, "The probes").
+// One probe on the line (document 01, "The probes", and document 02, R-2).
 //
-// A probe is in exactly one of six conditions. In each slot it may send, and then takes the level of the line; a 1-Wire reset makes it
-// take a ROM command. It keeps a mark: Read, Match, Search and Skip ROM clear it, a match or a search that ends at the probe sets it, and
-// Resume asks for it.
+// A probe is in exactly one of six conditions. In each slot that reaches it, it may send, and then takes the level of the line; a 1-Wire
+// reset makes it take a ROM command. It keeps a mark: Read, Match, Search and Skip ROM clear it, those of overdrive too, a match or a search
+// that ends at the probe sets it, and Resume asks for it. It has a speed, and slots at the other speed do not reach it.
 //
 // Worked example: a probe that has taken seven bits of CCh and takes a last 1 is selected.
 ghost use mathlib.Core.Path.{_≡_};
 ghost use Prim.Native.Nat.{_+_, _*_, _/_};
-ghost use Rattle.probe.specs.Probe.{deafNew, inCondition, withMark, sendsSearching, sends, resumed, obeyed, reset, digit, agrees};
+ghost use Rattle.probe.specs.Probe.{deafNew, inCondition, withMark, reaches, sendsSearching, sends, resumed};
+ghost use Rattle.probe.specs.Probe.{overdriveSkipped, overdriveMatching, obeyed, reset, digit, agrees};
 ghost use Rattle.probe.specs.Probe.{tookCode, tookSending, tookMatching, tookSearching, took, rests};
 
 // The ROM commands.
@@ -19,12 +20,21 @@ pub const SEARCH_ROM: u8 = 0xF0;
 
 pub const SKIP_ROM: u8 = 0xCC;
 
+pub const OVERDRIVE_SKIP_ROM: u8 = 0x3C;
+
+pub const OVERDRIVE_MATCH_ROM: u8 = 0x69;
+
 pub const RESUME: u8 = 0xA5;
 
 // The number of an ID's last bit, and of a code's.
 const LAST_BIT: u8 = 63;
 
 const LAST_CODE_BIT: u8 = 7;
+
+// The speed of a probe, or of the bridge, is a number: the configuration's bit 1WS.
+pub const STANDARD: u8 = 0;
+
+pub const OVERDRIVE: u8 = 1;
 
 // Which of the three slots of a search bit comes next.
 pub enum Slot {
@@ -42,8 +52,8 @@ pub enum Condition {
     Taking { count: u8, code: u8 },
     // Sending its ID, at this bit.
     Sending { bit: u8 },
-    // Matching its ID with the line, at this bit.
-    Matching { bit: u8 },
+    // Matching its ID with the line, at this bit. If it differs it goes to the fallback's speed.
+    Matching { bit: u8, fallback: u8 },
     // Searching, at this bit and in this slot of it.
     Searching { bit: u8, slot: Slot },
     Selected,
@@ -53,6 +63,7 @@ pub struct Probe {
     pub id: u64,
     pub marked: bool,
     pub condition: Condition,
+    pub speed: u8,
 }
 
 // A code with one bit more: it goes in at the top and moves the earlier ones down.
@@ -74,13 +85,14 @@ fn resumed(marked: bool) -> Condition
 }
 
 impl Probe {
-    // A newly fitted probe is deaf and unmarked.
+    // A newly fitted probe is deaf, unmarked and at standard speed.
     pub fn newly_fitted(id: u64) -> Probe
         ensures { λ r. ⌜ r ≡ deafNew id ⌝ }
     {
         Probe {
             id,
             marked: false,
+            speed: STANDARD,
             condition: Condition::Deaf,
         }
     }
@@ -91,6 +103,7 @@ impl Probe {
         Probe {
             id: self.id,
             marked: self.marked,
+            speed: self.speed,
             condition,
         }
     }
@@ -101,8 +114,16 @@ impl Probe {
         Probe {
             id: self.id,
             marked,
+            speed: self.speed,
             condition,
         }
+    }
+
+    // Slots at this speed reach the probe.
+    pub fn reached(self, speed: u8) -> bool
+        ensures { λ r. ⌜ r ≡ reaches speed self ⌝ }
+    {
+        speed == self.speed
     }
 
     // ---- what a probe sends
@@ -117,7 +138,7 @@ impl Probe {
         }
     }
 
-    // What the probe lets the line be in a slot: false where it sends 0, true where it sends 1 or nothing.
+    // What the probe lets the line be in a slot that reaches it: false where it sends 0, true where it sends 1 or nothing.
     pub fn sends(self) -> bool
         ensures { λ r. ⌜ r ≡ sends self ⌝ }
     {
@@ -126,7 +147,10 @@ impl Probe {
             Condition::Deaf => true,
             Condition::Taking { count: _, code: _ } => true,
             Condition::Sending { bit } => identity::bit(self.id, bit),
-            Condition::Matching { bit: _ } => true,
+            Condition::Matching {
+                bit: _,
+                fallback: _,
+            } => true,
             Condition::Searching { bit, slot } => self.sends_searching(bit, slot),
             Condition::Selected => true,
         }
@@ -134,13 +158,45 @@ impl Probe {
 
     // ---- what a probe becomes
 
+    // The mark is cleared and the speed set at once.
+    fn overdrive_skipped(self) -> Probe
+        ensures { λ r. ⌜ r ≡ overdriveSkipped self ⌝ }
+    {
+        Probe {
+            id: self.id,
+            marked: false,
+            speed: OVERDRIVE,
+            condition: Condition::Selected,
+        }
+    }
+
+    fn overdrive_matching(self) -> Probe
+        ensures { λ r. ⌜ r ≡ overdriveMatching self ⌝ }
+    {
+        Probe {
+            id: self.id,
+            marked: false,
+            speed: OVERDRIVE,
+            condition: Condition::Matching {
+                bit: 0,
+                fallback: STANDARD,
+            },
+        }
+    }
+
     // The probe once a ROM command is whole.
     pub fn obeyed(self, code: u8) -> Probe
         ensures { λ r. ⌜ r ≡ obeyed code self ⌝ }
     {
         match code {
             READ_ROM => self.with_mark(false, Condition::Sending { bit: 0 }),
-            MATCH_ROM => self.with_mark(false, Condition::Matching { bit: 0 }),
+            MATCH_ROM => self.with_mark(
+                false,
+                Condition::Matching {
+                    bit: 0,
+                    fallback: self.speed,
+                },
+            ),
             SEARCH_ROM => self.with_mark(
                 false,
                 Condition::Searching {
@@ -149,6 +205,8 @@ impl Probe {
                 },
             ),
             SKIP_ROM => self.with_mark(false, Condition::Selected),
+            OVERDRIVE_SKIP_ROM => self.overdrive_skipped(),
+            OVERDRIVE_MATCH_ROM => self.overdrive_matching(),
             RESUME => self.in_condition(resumed(self.marked)),
             _ => self.in_condition(Condition::Deaf),
         }
@@ -189,22 +247,30 @@ impl Probe {
         }
     }
 
-    fn took_matching(self, bit: u8, level: bool) -> Probe
-        ensures { λ r. ⌜ r ≡ tookMatching bit level self ⌝ }
+    fn took_matching(self, bit: u8, fallback: u8, level: bool) -> Probe
+        ensures { λ r. ⌜ r ≡ tookMatching bit fallback level self ⌝ }
     {
         if self.agrees(level, bit) {
             if LAST_BIT <= bit {
                 self.with_mark(true, Condition::Selected)
             } else {
-                self.in_condition(Condition::Matching { bit: bit + 1 })
+                self.in_condition(Condition::Matching {
+                    bit: bit + 1,
+                    fallback,
+                })
             }
         } else {
-            self.in_condition(Condition::Deaf)
+            Probe {
+                id: self.id,
+                marked: self.marked,
+                speed: fallback,
+                condition: Condition::Deaf,
+            }
         }
     }
 
     // The third slot of a search bit, for a probe that searches.
-    pub fn took_third(self, bit: u8, level: bool) -> Probe
+    fn took_third(self, bit: u8, level: bool) -> Probe
         ensures { λ r. ⌜ r ≡ tookSearching bit Slot.Third level self ⌝ }
     {
         if self.agrees(level, bit) {
@@ -237,7 +303,7 @@ impl Probe {
         }
     }
 
-    // No slot changes the probe.
+    // No slot changes the probe, at whatever speed.
     pub fn rests(self) -> bool
         ensures { λ r. ⌜ r ≡ rests self ⌝ }
     {
@@ -246,13 +312,16 @@ impl Probe {
             Condition::Deaf => true,
             Condition::Taking { count: _, code: _ } => false,
             Condition::Sending { bit: _ } => false,
-            Condition::Matching { bit: _ } => false,
+            Condition::Matching {
+                bit: _,
+                fallback: _,
+            } => false,
             Condition::Searching { bit: _, slot: _ } => false,
             Condition::Selected => true,
         }
     }
 
-    // The probe after a slot of this level.
+    // The probe after a slot of this level that reaches it.
     pub fn took(self, level: bool) -> Probe
         ensures { λ r. ⌜ r ≡ took level self ⌝ }
     {
@@ -261,16 +330,30 @@ impl Probe {
             Condition::Deaf => self,
             Condition::Taking { count, code } => self.took_code(count, code, level),
             Condition::Sending { bit } => self.took_sending(bit),
-            Condition::Matching { bit } => self.took_matching(bit, level),
+            Condition::Matching { bit, fallback } => self.took_matching(bit, fallback, level),
             Condition::Searching { bit, slot } => self.took_searching(bit, slot, level),
             Condition::Selected => self,
         }
     }
 
-    // The probe after a 1-Wire reset: taking a command, with no bits.
-    pub fn reset(self) -> Probe
-        ensures { λ r. ⌜ r ≡ reset self ⌝ }
+    // The probe after a 1-Wire reset at this speed: taking a command, with no bits, if the reset reaches it.
+    pub fn reset(self, speed: u8) -> Probe
+        ensures { λ r. ⌜ r ≡ reset speed self ⌝ }
     {
-        self.in_condition(Condition::Taking { count: 0, code: 0 })
+        let taking = Condition::Taking { count: 0, code: 0 };
+        if speed == STANDARD {
+            Probe {
+                id: self.id,
+                marked: self.marked,
+                speed: STANDARD,
+                condition: taking,
+            }
+        } else {
+            if self.reached(speed) {
+                self.in_condition(taking)
+            } else {
+                self
+            }
+        }
     }
 }

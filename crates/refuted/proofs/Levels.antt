@@ -9,8 +9,8 @@ use mathlib.Core.Path.{_≡_, refl}
 use lib.Dec.{lit<}
 use Rattle.checksum.specs.Register.{crc8Of, crcFrom, entered, shifts, shifted, taps8, taps}
 use Rattle.identity.specs.Identity.{numberOf, crcRight, familyOf, refusalOf}
-use Rattle.probe.specs.Probe.{sends, sendsIn, took, tookIn, tookCode, obeyed}
-use Rattle.line.specs.Line.{all, any, bare, fitted, onFitted, level, slot, slots, present, resetAll, idsOf, isFitted, placeNumber, fitNumber, withProbe, afterFit}
+use Rattle.probe.specs.Probe.{reaches, sends, sendsIn, sendsAt, took, tookIn, tookAt, reset, tookCode, obeyed}
+use Rattle.line.specs.Line.{all, any, bare, fitted, onFitted, level, slot, slots, present, afterReset, idsOf, isFitted, placeNumber, fitNumber, withProbe, afterFit}
 use Rattle.bridge.specs.declared.Bridge.{Bridge}
 use Rattle.bridge.specs.Bridge.{powerOn, afterFitting, command, bytesOf, takenWhileBusy, goodParameter, writeNumber, afterWrite, accepted}
 use Rattle.bridge.specs.Bridge.{finishedReset, finishedWrite, finishedTriplet, finishedOf, afterTime}
@@ -25,13 +25,13 @@ use Rattle.levels.specs.Levels.{Pass, afterTriplet, bothOne, takenFrom, passesT
 use Rattle.refuted.proofs.Searches.{one-reached}
 
 pub presence-needed : ((s : Bridge) → Reached s → (b : ℕ) (p : Pass) → Among p (passesTaken b s) → (k : ℕ) → k < 64 → bothOne (afterTriplet k p) ≡ false) → ⊥
-unfolding passesTaken takenFrom afterTriplet walked tripled tookTriplet direction command afterTime finishedOf finishedReset finishedWrite finishedTriplet afterWrite writeNumber bytesOf takenWhileBusy goodParameter accepted powerOn bare present resetAll level slot slots onFitted fitted all
+unfolding passesTaken takenFrom afterTriplet walked tripled tookTriplet direction command afterTime finishedOf finishedReset finishedWrite finishedTriplet afterWrite writeNumber bytesOf takenWhileBusy goodParameter accepted powerOn bare present afterReset reset reaches level slot slots onFitted fitted all
 presence-needed h =
     true≢false
     (h powerOn on 1 (record { previous = 0; conflict = Nowhere; bridge = command (0xB4 ∷ []) (command (0xF0 ∷ []) powerOn) }) (List·Memᴰ·head refl) 0 (lit< tt))
 
 pub search-needed : ((s : Bridge) → Reached s → s .registers .status .ppd ≡ true → bothOne (command (0x78 ∷ 0 ∷ []) s) ≡ false) → ⊥
-unfolding command afterTime finishedOf finishedReset finishedWrite finishedTriplet afterWrite writeNumber bytesOf takenWhileBusy goodParameter accepted powerOn bare present resetAll level slot slots onFitted fitted all sends sendsIn took tookIn tookCode obeyed afterFitting afterFit fitNumber placeNumber isFitted idsOf any withProbe refusalOf crcRight familyOf crc8Of crcFrom entered shifts shifted taps8 taps numberOf
+unfolding command afterTime finishedOf finishedReset finishedWrite finishedTriplet afterWrite writeNumber bytesOf takenWhileBusy goodParameter accepted powerOn bare present afterReset reset reaches level slot slots onFitted fitted all sends sendsIn sendsAt took tookIn tookAt tookCode obeyed afterFitting afterFit fitNumber placeNumber isFitted idsOf any withProbe refusalOf crcRight familyOf crc8Of crcFrom entered shifts shifted taps8 taps numberOf
 search-needed h =
     true≢false
     (h (command (0xA5 ∷ 0xCC ∷ []) (command (0xB4 ∷ []) (withOne a))) (reached-byte 0xCC (lit< tt) (reached-reset (one-reached a refl refl))) refl)

@@ -15,9 +15,9 @@ use Rattle.checksum.specs.Register.{crc8Of, crcFrom, entered, shifts, shifted, 
 use Rattle.identity.specs.Identity.{numberOf, bitOf, crcRight, familyOf, refusalOf}
 use Rattle.probe.specs.declared.Condition.the-variants.{Deaf, Selected}
 use Rattle.probe.specs.declared.Probe.{Probe}
-use Rattle.probe.specs.Probe.{digit, sends, sendsIn, sendsSearching, took, tookIn, tookCode, tookSearching, obeyed}
+use Rattle.probe.specs.Probe.{reaches, digit, sends, sendsIn, sendsAt, sendsSearching, took, tookIn, tookAt, reset, tookCode, tookSearching, obeyed}
 use Rattle.line.specs.declared.Line.{Line}
-use Rattle.line.specs.Line.{all, any, bare, fitted, onFitted, level, slot, slots, present, resetAll, idOf, idsOf, isFitted, placeNumber, fitNumber, withProbe, afterFit}
+use Rattle.line.specs.Line.{all, any, bare, fitted, onFitted, level, slot, slots, present, afterReset, idOf, idsOf, isFitted, placeNumber, fitNumber, withProbe, afterFit}
 use Rattle.bridge.specs.declared.Bridge.{Bridge}
 use Rattle.bridge.specs.Bridge.{powerOn, afterFitting, command, bytesOf, takenWhileBusy, goodParameter, writeNumber, afterWrite, accepted}
 use Rattle.bridge.specs.Bridge.{finishedReset, finishedWrite, finishedTriplet, finishedOf, afterTime}
@@ -299,7 +299,7 @@ state-left h =
 -- ---- a conflict noted where 1 was taken: after C and A, of two, it is not complete
 
 pub one-noted : Meets (callOf notesOne) → ⊥
-unfolding outcomeWith searchBy searchedBy walkedBy tripledBy tookTriplet continued command afterTime finishedOf afterWrite writeNumber bytesOf takenWhileBusy goodParameter accepted obeyed finishedReset finishedWrite finishedTriplet present resetAll level slot slots onFitted all sends sendsIn sendsSearching took tookIn tookCode tookSearching bitOf direction powerOn bare afterFitting afterFit fitNumber placeNumber isFitted idsOf fitted any withProbe refusalOf crcRight familyOf crc8Of crcFrom entered shifts shifted taps8 taps numberOf
+unfolding outcomeWith searchBy searchedBy walkedBy tripledBy tookTriplet continued command afterTime finishedOf afterWrite writeNumber bytesOf takenWhileBusy goodParameter accepted obeyed finishedReset finishedWrite finishedTriplet present afterReset reset reaches level slot slots onFitted all sends sendsIn sendsAt sendsSearching took tookIn tookAt tookCode tookSearching bitOf direction powerOn bare afterFitting afterFit fitNumber placeNumber isFitted idsOf fitted any withProbe refusalOf crcRight familyOf crc8Of crcFrom entered shifts shifted taps8 taps numberOf
 one-noted meets =
     let due = values-due (callOf notesOne) meets two two-reached (numberOf a ∷ numberOf c ∷ []) ids-two 2 (room 2) (outcomeWith notesOne two 2 (room 2)) (refl, lit≤ tt) in
     let e : _≡_ {A = ℕ} 0 1 = ap (λ (v : List ℕ). getD v 2 0) due in

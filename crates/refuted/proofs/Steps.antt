@@ -8,10 +8,11 @@ use lib.Dec.{lit<}
 use lib.ListN.{length, getD}
 use Rattle.checksum.specs.Register.{crc16Of, crcFrom, entered, shifts, shifted, taps, taps16}
 use Rattle.line.specs.Line.{bare, fitted, all, level, slot, onFitted}
+use Rattle.triplet_slots.specs.Triplet.{chosen}
 use Rattle.bridge.specs.declared.Bridge.{Bridge}
 use Rattle.bridge.specs.declared.Pending.the-variants.{Reset, Triplet}
 use Rattle.bridge.specs.declared.Pointer.the-variants.{Status}
-use Rattle.bridge.specs.Bridge.{powerOn, statusOf, readOf, busy, bytesOf, goodParameter, writeNumber, afterWrite, accepted, finishedReset, finishedTriplet, finishedOf, afterTime, chosen}
+use Rattle.bridge.specs.Bridge.{powerOn, statusOf, readOf, busy, bytesOf, goodParameter, writeNumber, afterWrite, accepted, finishedReset, finishedTriplet, finishedOf, afterTime}
 use Rattle.bridge.specs.Reached.{Bytes, Reached}
 use Rattle.bridge.specs.Reached.Reached.{on, write}
 use Rattle.packet.specs.Request.{Request, read, bodyOf, invertedOf, sealOf, packetOf}

@@ -8,10 +8,10 @@ use mathlib.Core.Path.{_≡_, refl}
 use lib.ListN.{length}
 use Rattle.checksum.specs.Register.{crc8Of, crcFrom, entered, shifts, shifted, taps8, taps}
 use Rattle.identity.specs.Identity.{numberOf, bitOf, crcRight, familyOf, refusalOf}
-use Rattle.probe.specs.declared.Condition.the-variants.{Deaf, Selected}
+use Rattle.probe.specs.declared.Condition.the-variants.{Selected}
 use Rattle.probe.specs.declared.Probe.{Probe}
-use Rattle.probe.specs.Probe.{sends, sendsIn, took, tookIn, tookCode, tookMatching, obeyed}
-use Rattle.line.specs.Line.{all, any, bare, fitted, onFitted, level, slot, slots, present, resetAll, idsOf, isFitted, placeNumber, fitNumber, withProbe, afterFit}
+use Rattle.probe.specs.Probe.{standard, deafNew, reaches, sends, sendsIn, sendsAt, took, tookIn, tookAt, reset, tookCode, tookMatching, obeyed}
+use Rattle.line.specs.Line.{all, any, bare, fitted, onFitted, level, slot, slots, present, afterReset, idsOf, isFitted, placeNumber, fitNumber, withProbe, afterFit}
 use Rattle.withdrawal.specs.Withdrawal.{others, lineWith, without, withdrawNumber, afterWithdraw}
 use Rattle.bridge.specs.declared.Bridge.{Bridge}
 use Rattle.bridge.specs.Bridge.{powerOn, afterFitting, afterWithdrawal, command, bytesOf, takenWhileBusy, goodParameter, writeNumber, afterWrite, accepted}
@@ -40,9 +40,9 @@ unfolding all
 marked-reached = reached-sent (0x55 ∷ a) (below (0x55 ∷ a) refl) (reached-reset (one-reached a refl refl))
 
 pub mark-kept : ((s : Bridge) → Reached s → (x : List ℕ) → Bytes x → length x ≡ 8 → withdrawNumber x (s .line) ≡ 0 → (p q : Probe) → Among p (fittedAt s) → p .id ≡ numberOf x → Among q (fittedAt (afterFitting x (afterWithdrawal x s))) → q .id ≡ numberOf x → q .marked ≡ p .marked) → ⊥
-unfolding command afterTime finishedOf finishedReset finishedWrite afterWrite writeNumber bytesOf takenWhileBusy goodParameter accepted powerOn bare present resetAll level slot slots onFitted fitted all sends sendsIn took tookIn tookCode tookMatching obeyed bitOf afterFitting afterFit fitNumber placeNumber isFitted idsOf any withProbe refusalOf crcRight familyOf crc8Of crcFrom entered shifts shifted taps8 taps numberOf afterWithdrawal afterWithdraw withdrawNumber without lineWith others
+unfolding command afterTime finishedOf finishedReset finishedWrite afterWrite writeNumber bytesOf takenWhileBusy goodParameter accepted powerOn bare present afterReset reset reaches level slot slots onFitted fitted all sends sendsIn sendsAt took tookIn tookAt tookCode tookMatching obeyed bitOf afterFitting afterFit fitNumber placeNumber isFitted idsOf any withProbe refusalOf crcRight familyOf crc8Of crcFrom entered shifts shifted taps8 taps numberOf afterWithdrawal afterWithdraw withdrawNumber without lineWith others
 mark-kept h =
     false≢true
-    (h marked marked-reached a (below a refl) refl refl (record { id = numberOf a; marked = true; condition = Selected })
-    (record { id = numberOf a; marked = false; condition = Deaf })
+    (h marked marked-reached a (below a refl) refl refl (record { id = numberOf a; marked = true; speed = standard; condition = Selected })
+    (deafNew (numberOf a))
     (List·Memᴰ·head refl) refl (List·Memᴰ·head refl) refl)

@@ -7,10 +7,11 @@ use lib.ListN.{length}
 use Rattle.identity.specs.Identity.{numberOf}
 use Rattle.probe.specs.declared.Probe.{Probe}
 use Rattle.withdrawal.specs.Withdrawal.{withdrawNumber}
+use Rattle.triplet_slots.specs.Triplet.{chosen}
 use Rattle.bridge.specs.declared.Bridge.{Bridge}
 use Rattle.bridge.specs.declared.Pending.the-variants.{Reset, Triplet}
 use Rattle.bridge.specs.declared.Pointer.the-variants.{Status}
-use Rattle.bridge.specs.Bridge.{readOf, writeNumber, afterWrite, afterTime, afterFitting, afterWithdrawal, command, finishedTriplet, chosen}
+use Rattle.bridge.specs.Bridge.{readOf, writeNumber, afterWrite, afterTime, afterFitting, afterWithdrawal, command, finishedTriplet}
 use Rattle.bridge.specs.Reached.{Bytes, Reached}
 use Rattle.pass.specs.Pass.{noted}
 use Rattle.pass.specs.Passes.{search}

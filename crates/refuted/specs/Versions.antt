@@ -21,9 +21,9 @@ use mathlib.Core.Path.{_≡_}
 use lib.Dec.{leb, ltb}
 use lib.ListN.{length, take}
 use Rattle.checksum.specs.Register.{crc16Of}
-use Rattle.line.specs.Line.{level, slot, present, resetAll}
+use Rattle.line.specs.Line.{level, slot, present, afterReset}
 use Rattle.bridge.specs.declared.Bridge.{Bridge}
-use Rattle.bridge.specs.Bridge.{command, finished, withLevels}
+use Rattle.bridge.specs.Bridge.{speedOf, command, finished, withLevels}
 use Rattle.pass.specs.declared.Conflict.{Conflict}
 use Rattle.pass.specs.declared.Conflict.the-variants.{Nowhere, At}
 use Rattle.pass.specs.declared.Walk.{Walk}
@@ -142,8 +142,8 @@ clearsRst s =
     let r = s .registers in
     let t = r .status in
     record {
-      registers = finished (record { dir = t .dir; tsb = t .tsb; sbr = t .sbr; rst = false; ppd = present (s .line) }) (r .readout) r;
-      line = resetAll (s .line);
+      registers = finished (record { dir = t .dir; tsb = t .tsb; sbr = t .sbr; rst = false; ppd = present (speedOf r) (s .line) }) (r .readout) r;
+      line = afterReset (speedOf r) (s .line);
     }
 
 -- Writing 0 after levels 1,1.
@@ -152,13 +152,14 @@ zeroAfterOnes first second d = cond second false (cond first true d)
 
 abbrev pub tripletBy : (Bool → Bool → Bool → Bool) → Bool → Bridge → Bridge
 tripletBy choose d s =
-    let l1 = slot true (s .line) in
-    let l2 = slot true l1 in
-    let first = level true (s .line) in
-    let second = level true l1 in
-    let w = choose first second d in
     let r = s .registers in
-    record { registers = finished (withLevels w second first (r .status)) (r .readout) r; line = slot w l2 }
+    let v = speedOf r in
+    let l1 = slot v true (s .line) in
+    let l2 = slot v true l1 in
+    let first = level v true (s .line) in
+    let second = level v true l1 in
+    let w = choose first second d in
+    record { registers = finished (withLevels w second first (r .status)) (r .readout) r; line = slot v w l2 }
 
 -- ---- packets
 

@@ -97,3 +97,24 @@ pub(crate) fn configured(bridge: Bridge) -> Bridge {
 pub(crate) fn in_a_pass(bridge: Bridge) -> Bridge {
     repeated(rom(bridge, probe::SEARCH_ROM), 10, b"\x78\x80")
 }
+
+// ---- overdrive
+
+fn quick(bridge: Bridge) -> Bridge {
+    pass::command(bridge, b"\xD2\x78")
+}
+
+// All probes at overdrive, and the bridge.
+pub(crate) fn at_overdrive(bridge: Bridge) -> Bridge {
+    quick(rom(bridge, probe::OVERDRIVE_SKIP_ROM))
+}
+
+// Two in the middle of a pass at overdrive, a third at standard speed, and the bridge there too, after a Device Reset.
+pub(crate) fn of_both_speeds(first: &[u8; 8], second: &[u8; 8], third: &[u8; 8]) -> Bridge {
+    let fast = in_a_pass(at_overdrive(of_two(first, second)));
+    pass::command(with(fast, third), b"\xF0")
+}
+
+pub(crate) fn reset_at_overdrive(bridge: Bridge) -> Bridge {
+    pass::command(quick(bridge), b"\xB4")
+}

@@ -167,6 +167,24 @@ fn swapped() {
     );
 }
 
+// Whatever the speeds were, all are found, and no probe is left at overdrive where a search has issued anything (document 02, R-2).
+fn overdrive() {
+    let all = lines::at_overdrive(lines::of_three(&A, &B, &C));
+    show::search(b"all at overdrive, and the bridge", all, 3);
+    show::search(
+        b"A and B at overdrive, C not, nor the bridge",
+        lines::of_both_speeds(&A, &B, &C),
+        3,
+    );
+    let found = show::found(all, 2);
+    show::resumed(b"all at overdrive, Resume after b = 2", found);
+    show::presence(b"all at overdrive, a reset there after b = 2", found);
+    show::presence(
+        b"all at overdrive, a reset there after b = 0",
+        show::found(all, 0),
+    );
+}
+
 fn main() {
     paper();
     full();
@@ -178,4 +196,5 @@ fn main() {
     withdrawn();
     fewer();
     swapped();
+    overdrive();
 }

@@ -196,6 +196,13 @@ pub(crate) fn resumed(title: &[u8], bridge: Bridge) {
     say::text(b"\n");
 }
 
+// The status after a 1-Wire reset at overdrive.
+pub(crate) fn presence(title: &[u8], bridge: Bridge) {
+    say::text(title);
+    status(lines::reset_at_overdrive(bridge));
+    say::text(b"\n");
+}
+
 // The bridge after a search, of which nothing is printed.
 pub(crate) fn found(bridge: Bridge, b: u16) -> Bridge {
     let mut list = blank();

@@ -16,7 +16,7 @@ use lib.ListN.{length, take, length-take, length-map}
 use Rattle.line.specs.Line.{fitted, idOf, idsOf}
 use Rattle.bridge.specs.declared.Bridge.{Bridge}
 use Rattle.bridge.proofs.Effects.{command-deviceReset}
-use Rattle.bridge.specs.Bridge.{command}
+use Rattle.bridge.specs.Bridge.{speedOf, command}
 use Rattle.pass.specs.declared.Conflict.the-variants.{Nowhere}
 use Rattle.pass.specs.Pass.{direction}
 use Rattle.pass.specs.Passes.{absent, Result, searched, search}
@@ -36,10 +36,10 @@ first-pass : (ids : List ℕ) → has ids 0 0 ≡ true → Sequences (has ids) 6
 unfolding direction sorted
 first-pass ids there = sequence (has ids) (has-split ids) 64 0 0 (lit< tt) there (direction 0 Nowhere) (λ j h. refl)
 
--- after the Device Reset nothing is pending, and the line is as it was
+-- after the Device Reset nothing is pending, the bridge is at standard speed, and the line is as it was
 pub started : {ids : List ℕ} {rest : Rest} (b : Bridge) → Holds ids rest (b .line) → Idle ids rest (command (0xF0 ∷ []) b)
 started {ids} {rest} b h =
-    subst⁻¹ (Idle ids rest) (command-deviceReset b) (record { holds = h; idle = refl })
+    subst⁻¹ (Idle ids rest) (command-deviceReset b) (record { holds = h; idle = refl; speed = refl })
 
 -- ---- no pass allowed
 
@@ -72,6 +72,7 @@ unfolding search
 search-absent m b none =
     searched-absent m 0 Nowhere (command (0xF0 ∷ []) b)
     (reset-ppd (command (0xF0 ∷ []) b) (ap (λ (r : Bridge). r .registers .pending) (command-deviceReset b))
+    (ap (λ (r : Bridge). speedOf (r .registers)) (command-deviceReset b))
     ∙ ap (λ (r : Bridge). ltb 0 (r .line .count)) (command-deviceReset b)
     ∙ le-ltb 0 (b .line .count) (omega arith))
 
@@ -84,7 +85,7 @@ outcome-facts ids rest l m b r pos o =
       used = omega (arith, o .used);
       whole = o .whole ∙ ap (λ (t : Bool). t && leb (length l) (suc m)) (sym (le-leb 1 (suc m) (omega arith)));
       holds = o .idle .holds;
-      closing = λ p x e. (o .closing p x e, o .idle .idle);
+      closing = λ p x e. (o .closing p x e, o .idle .idle, o .idle .speed);
     }
 
 search-some : (i : ℕ) (ids : List ℕ) (rest : Rest) (m : ℕ) (b : Bridge) → Holds (i ∷ ids) rest (b .line) → Facts (i ∷ ids) rest (sorted (i ∷ ids)) (suc m) (search (suc m) b)

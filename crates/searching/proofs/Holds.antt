@@ -1,5 +1,5 @@
 -- The line keeps its IDs, and what it has beside them, in everything but a fitting.
---   obeyed-id, took-id    a probe keeps its ID
+--   obeyed-id, took-id, reset-id    a probe keeps its ID
 --   holds-f               the line keeps its IDs and its free entries in f: slot, reset, slots, time, command
 --   write-line            a write leaves the line
 use mathlib.Core.Path.{_≡_, refl, ap, ap₂, subst⁻¹, _∙_}
@@ -12,9 +12,9 @@ use Rattle.probe.specs.declared.Slot.the-variants.{First, Second, Third}
 use Rattle.probe.specs.declared.Condition.{Condition}
 use Rattle.probe.specs.declared.Condition.the-variants.{Deaf, Taking, Sending, Matching, Searching, Selected}
 use Rattle.probe.specs.declared.Probe.{Probe}
-use Rattle.probe.specs.Probe.{digit, agrees, reset, obeyed, took, tookIn, tookCode, tookSending, tookMatching, tookSearching}
+use Rattle.probe.specs.Probe.{standard, digit, reaches, agrees, reset, obeyed, took, tookIn, tookCode, tookSending, tookMatching, tookSearching, tookAt}
 use Rattle.line.specs.declared.Line.{Line}
-use Rattle.line.specs.Line.{idOf, onFitted, slot, level, resetAll, slots}
+use Rattle.line.specs.Line.{idOf, onFitted, slot, level, afterReset, slots}
 use Rattle.bridge.specs.declared.Pending.{Pending}
 use Rattle.bridge.specs.declared.Pending.the-variants.{Nothing, Reset, SingleBit, WriteByte, ReadByte, Triplet}
 use Rattle.bridge.specs.declared.Bridge.{Bridge}
@@ -34,23 +34,29 @@ obeyed-id c p =
     cond-id (p .id) (eqb c 0x33) _ _ refl
     (cond-id (p .id) (eqb c 0x55) _ _ refl
     (cond-id (p .id) (eqb c 0xF0) _ _ refl
-    (cond-id (p .id) (eqb c 0xCC) _ _ refl (cond-id (p .id) (eqb c 0xA5) _ _ refl refl))))
+    (cond-id (p .id) (eqb c 0xCC) _ _ refl
+    (cond-id (p .id) (eqb c 0x3C) _ _ refl
+    (cond-id (p .id) (eqb c 0x69) _ _ refl (cond-id (p .id) (eqb c 0xA5) _ _ refl refl))))))
 
 tookIn-id : (c : Condition) (l : Bool) (p : Probe) → tookIn c l p .id ≡ p .id
 unfolding tookIn tookCode tookSending tookMatching tookSearching
 tookIn-id Deaf l p = refl
 tookIn-id (Taking n c) l p = cond-id (p .id) (leb 7 n) _ _ (obeyed-id (c / 2 + 128 * digit l) p) refl
 tookIn-id (Sending k) l p = refl
-tookIn-id (Matching k) l p = cond-id (p .id) (agrees l (p .id) k) _ _ (cond-id (p .id) (leb 63 k) _ _ refl refl) refl
+tookIn-id (Matching k v) l p = cond-id (p .id) (agrees l (p .id) k) _ _ (cond-id (p .id) (leb 63 k) _ _ refl refl) refl
 tookIn-id (Searching k First) l p = refl
 tookIn-id (Searching k Second) l p = refl
 tookIn-id (Searching k Third) l p =
     cond-id (p .id) (agrees l (p .id) k) _ _ (cond-id (p .id) (leb 63 k) _ _ refl refl) refl
 tookIn-id Selected l p = refl
 
-took-id : (l : Bool) (p : Probe) → took l p .id ≡ p .id
-unfolding took
-took-id l p = tookIn-id (p .condition) l p
+pub took-id : (v : ℕ) (l : Bool) (p : Probe) → tookAt v l p .id ≡ p .id
+unfolding tookAt took
+took-id v l p = cond-id (p .id) (reaches v p) _ _ (tookIn-id (p .condition) l p) refl
+
+pub reset-id : (v : ℕ) (p : Probe) → reset v p .id ≡ p .id
+unfolding reset
+reset-id v p = cond-id (p .id) (eqb v standard) _ _ refl (cond-id (p .id) (reaches v p) _ _ refl refl)
 
 -- ---- the line keeps its IDs and its free entries
 
@@ -67,18 +73,18 @@ module _ {ids : List ℕ} {rest : Rest} where
         same = ids-map f e (h .probes) ∙ h .same;
       }
 
-  holds-slot : (w : Bool) {l : Line} → Holds ids rest l → Holds ids rest (slot w l)
+  holds-slot : (v : ℕ) (w : Bool) {l : Line} → Holds ids rest l → Holds ids rest (slot v w l)
   unfolding slot
-  holds-slot w {l} h = holds-on (took (level w l)) (took-id (level w l)) h
+  holds-slot v w {l} h = holds-on (tookAt v (level v w l)) (took-id v (level v w l)) h
 
-  holds-reset : {l : Line} → Holds ids rest l → Holds ids rest (resetAll l)
-  unfolding resetAll
-  holds-reset h = holds-on reset (λ p. refl) h
+  holds-reset : (v : ℕ) {l : Line} → Holds ids rest l → Holds ids rest (afterReset v l)
+  unfolding afterReset
+  holds-reset v h = holds-on (reset v) (reset-id v) h
 
-  holds-slots : (n x : ℕ) {l : Line} → Holds ids rest l → Holds ids rest (slots n x l)
+  holds-slots : (v n x : ℕ) {l : Line} → Holds ids rest l → Holds ids rest (slots v n x l)
   unfolding slots
-  holds-slots zero x h = h
-  holds-slots (suc n) x h = holds-slots n (x / 2) (holds-slot (eqb (x % 2) 1) h)
+  holds-slots v zero x h = h
+  holds-slots v (suc n) x h = holds-slots v n (x / 2) (holds-slot v (eqb (x % 2) 1) h)
 
   -- time passing
   pub holds-time : (b : Bridge) → Holds ids rest (b .line) → Holds ids rest (afterTime b .line)
@@ -87,11 +93,11 @@ module _ {ids : List ℕ} {rest : Rest} where
     where
       go : (p : Pending) → Holds ids rest (finishedOf p b .line)
       go Nothing = h
-      go Reset = holds-reset h
-      go (SingleBit w) = holds-slot w h
-      go (WriteByte x) = holds-slots 8 x h
-      go ReadByte = holds-slots 8 0xFF h
-      go (Triplet d) = holds-slot _ (holds-slot true (holds-slot true h))
+      go Reset = holds-reset _ h
+      go (SingleBit w) = holds-slot _ w h
+      go (WriteByte x) = holds-slots _ 8 x h
+      go ReadByte = holds-slots _ 8 0xFF h
+      go (Triplet d) = holds-slot _ _ (holds-slot _ true (holds-slot _ true h))
 
 -- a write leaves the line
 pub write-line : (x : List ℕ) (b : Bridge) → afterWrite x b .line ≡ b .line

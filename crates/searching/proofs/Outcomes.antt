@@ -54,7 +54,7 @@ module _ (ids : List ℕ) (rest : Rest) (there : has ids 0 0 ≡ true) where
   module _ (i : ℕ) (c : Conflict) (b : Bridge) (t : Idle ids rest b) where
     presence : command (0xB4 ∷ []) b .registers .status .ppd ≡ true
     presence =
-        reset-ppd b (t .idle)
+        reset-ppd b (t .idle) (t .speed)
         ∙ ap (λ (l : Line). ltb 0 (l .count)) (t .holds .line)
         ∙ lt-ltb 0 (lineOf (t .holds .probes) rest .count)
         (count-lineOf (t .holds .probes) rest

@@ -16,20 +16,22 @@ use native.Mathlib.Omega.{arith}
 use Rattle.probe.specs.declared.Slot.the-variants.{Second}
 use Rattle.probe.specs.declared.Probe.{Probe}
 use lib.Dec.{ltb, lit<}
-use Rattle.probe.specs.Probe.{digit, reset, obeyed}
-use Rattle.line.specs.Line.{level, slot, idOf, resetAll, present, slots}
+use Rattle.probe.specs.Probe.{standard, digit, reset}
+use Rattle.line.specs.declared.Line.{Line}
+use Rattle.line.specs.Line.{level, slot, idOf, afterReset, present, slots}
+use Rattle.triplet_slots.specs.Triplet.{chosen, firstLevel, secondLevel, writtenBit}
 use Rattle.bridge.specs.declared.Bridge.{Bridge}
-use Rattle.bridge.specs.declared.Pending.the-variants.{Nothing, Triplet}
+use Rattle.bridge.specs.declared.Pending.the-variants.{Nothing, WriteByte, Triplet}
 use Rattle.bridge.proofs.Effects.{command-reset, command-write, command-triplet}
-use Rattle.bridge.specs.Bridge.{isPending, busy, pended, withRegisters, chosen, finishedReset, finishedWrite, finishedTriplet, command}
+use Rattle.bridge.specs.Bridge.{isPending, busy, speedOf, pended, withRegisters, finishedReset, finishedWrite, finishedTriplet, command}
 use Rattle.pass.specs.declared.Conflict.{Conflict}
 use Rattle.pass.specs.declared.Conflict.the-variants.{Nowhere, At}
 use Rattle.pass.specs.declared.Walk.{Walk}
 use Rattle.pass.specs.Pass.{direction, noted, tripletByte, tookTriplet, tripled, walked, begun, passed}
 use Rattle.enumeration.proofs.Tree.{has, child, branch, conflictAt, ending, deeper, last}
 use Rattle.enumeration.proofs.Bits.{child-lt, has-split}
-use Rattle.searching.proofs.Words.{Rest, lineOf, stand, standing, gathered, onto, Under, Idle}
-use Rattle.searching.proofs.Wire.{first-slot, second-slot, third-slot, first-level, second-level, resetAll-lineOf, slots-reset, obeyed-search, ids-standing}
+use Rattle.searching.proofs.Words.{Rest, lineOf, commanded, stand, standing, gathered, onto, Under, Idle}
+use Rattle.searching.proofs.Wire.{first-slot, second-slot, third-slot, first-level, second-level, afterReset-lineOf, slots-reset, obeyed-search, ids-standing}
 
 -- ---- a triplet on the bridge
 
@@ -62,21 +64,21 @@ noted-conflictAt h d k a c = go (h (suc k) (child false k a)) (h (suc k) (child 
     go true false e = refl
     go false o e = refl
 
-module _ (ids : List ℕ) (rest : Rest) (d : ℕ → Bool) (k a : ℕ) (within : k < 64) (below : a < 2 ^ k) (b : Bridge) (line : b .line ≡ lineOf (map (standing k a) ids) rest) where
+module _ (ids : List ℕ) (rest : Rest) (d : ℕ → Bool) (k a : ℕ) (within : k < 64) (below : a < 2 ^ k) (b : Bridge) (line : b .line ≡ lineOf (map (standing k a) ids) rest) (speed : speedOf (b .registers) ≡ standard) where
   after : Bridge
   after = finishedTriplet (d k) (withRegisters (pended (Triplet (d k)) (b .registers)) b)
 
   triplet-sbr : after .registers .status .sbr ≡ not (has ids (suc k) (child false k a))
   unfolding after finishedTriplet
-  triplet-sbr = ap (level true) line ∙ first-level k a below ids rest within
+  triplet-sbr = ap₂ firstLevel speed line ∙ first-level k a below ids rest within
 
   -- the line after the first slot
-  first-line : slot true (b .line) ≡ lineOf (map (stand Second k a) ids) rest
-  first-line = ap (slot true) line ∙ first-slot k a below ids rest within
+  first-line : slot (speedOf (b .registers)) true (b .line) ≡ lineOf (map (stand Second k a) ids) rest
+  first-line = ap₂ (λ (v : ℕ) (l : Line). slot v true l) speed line ∙ first-slot k a below ids rest within
 
   triplet-tsb : after .registers .status .tsb ≡ not (has ids (suc k) (child true k a))
   unfolding after finishedTriplet
-  triplet-tsb = ap (level true) first-line ∙ second-level k a below ids rest
+  triplet-tsb = ap₂ (λ (v : ℕ) (l : Line). level v true l) speed first-line ∙ second-level k a below ids rest
 
   triplet-dir : after .registers .status .dir ≡ branch (has ids) d k a
   unfolding after finishedTriplet
@@ -85,8 +87,9 @@ module _ (ids : List ℕ) (rest : Rest) (d : ℕ → Bool) (k a : ℕ) (within :
   triplet-line : after .line ≡ lineOf (map (standing (suc k) (child (branch (has ids) d k a) k a)) ids) rest
   unfolding after finishedTriplet
   triplet-line =
-      ap₂ (λ (w : Bool) l. slot w (slot true l)) triplet-dir first-line
-      ∙ ap (slot (branch (has ids) d k a)) (second-slot k a below ids rest)
+      ap₂ (λ (w : Bool) (l : Line). slot (speedOf (b .registers)) w (slot (speedOf (b .registers)) true l)) triplet-dir first-line
+      ∙ ap (λ (v : ℕ). slot v (branch (has ids) d k a) (slot v true (lineOf (map (stand Second k a) ids) rest))) speed
+      ∙ ap (slot standard (branch (has ids) d k a)) (second-slot k a below ids rest)
       ∙ third-slot k a below ids rest (branch (has ids) d k a)
 
 -- ---- a triplet of a pass
@@ -124,7 +127,7 @@ module _ (ids : List ℕ) (rest : Rest) (i : ℕ) (c : Conflict) where
   module _ (k a : ℕ) (within : k < 64) (below : a < 2 ^ k) (there : has ids k a ≡ true) (w : Walk) (u : Under ids rest k a w) where
     -- the triplet's bridge
     shown : Bridge
-    shown = after ids rest (direction i c) k a within below (w .bridge) (u .line)
+    shown = after ids rest (direction i c) k a within below (w .bridge) (u .line) (u .speed)
 
     tripled-shown : tripled i c k w ≡ tookTriplet k shown w
     unfolding tripled shown after
@@ -134,11 +137,12 @@ module _ (ids : List ℕ) (rest : Rest) (i : ℕ) (c : Conflict) where
     unfolding tookTriplet shown after finishedTriplet
     tripled-under =
         record {
-          line = triplet-line ids rest (direction i c) k a within below (w .bridge) (u .line);
+          line = triplet-line ids rest (direction i c) k a within below (w .bridge) (u .line) (u .speed);
           idle = refl;
+          speed = u .speed;
           path =
               ap₂ (λ (x : ℕ) (t : Bool). x + digit t * 2 ^ k) (u .path)
-              (triplet-dir ids rest (direction i c) k a within below (w .bridge) (u .line))
+              (triplet-dir ids rest (direction i c) k a within below (w .bridge) (u .line) (u .speed))
               ∙ id-child (branch (has ids) (direction i c) k a) k a;
         }
 
@@ -146,11 +150,11 @@ module _ (ids : List ℕ) (rest : Rest) (i : ℕ) (c : Conflict) where
     unfolding tookTriplet shown
     tripled-conflict =
         ap₂ (λ (x y : Bool). noted x y (shown .registers .status .dir) k (w .conflict))
-        (triplet-sbr ids rest (direction i c) k a within below (w .bridge) (u .line))
-        (triplet-tsb ids rest (direction i c) k a within below (w .bridge) (u .line))
+        (triplet-sbr ids rest (direction i c) k a within below (w .bridge) (u .line) (u .speed))
+        (triplet-tsb ids rest (direction i c) k a within below (w .bridge) (u .line) (u .speed))
         ∙ ap
         (λ (t : Bool). noted (not (has ids (suc k) (child false k a))) (not (has ids (suc k) (child true k a))) t k (w .conflict))
-        (triplet-dir ids rest (direction i c) k a within below (w .bridge) (u .line))
+        (triplet-dir ids rest (direction i c) k a within below (w .bridge) (u .line) (u .speed))
         ∙ noted-conflictAt (has ids) (direction i c) k a (w .conflict)
 
     -- where the triplet leaves the pass
@@ -166,8 +170,8 @@ module _ (ids : List ℕ) (rest : Rest) (i : ℕ) (c : Conflict) where
     tripled-heard =
         ap (λ (v : Walk). v .bridge .registers .status .sbr && v .bridge .registers .status .tsb) tripled-shown
         ∙ ap₂ _&&_
-        (triplet-sbr ids rest (direction i c) k a within below (w .bridge) (u .line))
-        (triplet-tsb ids rest (direction i c) k a within below (w .bridge) (u .line))
+        (triplet-sbr ids rest (direction i c) k a within below (w .bridge) (u .line) (u .speed))
+        (triplet-tsb ids rest (direction i c) k a within below (w .bridge) (u .line) (u .speed))
         ∙ one-heard (has ids (suc k) (child false k a)) (has ids (suc k) (child true k a)) (sym (has-split ids k a below) ∙ there)
 
   -- ---- the triplets of a pass
@@ -203,30 +207,43 @@ module _ (ids : List ℕ) (rest : Rest) (i : ℕ) (c : Conflict) where
 
 -- ---- a 1-Wire Reset, and a ROM command
 
-pub reset-ppd : (b : Bridge) → b .registers .pending ≡ Nothing → command (0xB4 ∷ []) b .registers .status .ppd ≡ ltb 0 (b .line .count)
+-- at standard speed every fitted probe answers the reset
+pub reset-ppd : (b : Bridge) → b .registers .pending ≡ Nothing → speedOf (b .registers) ≡ standard → command (0xB4 ∷ []) b .registers .status .ppd ≡ ltb 0 (b .line .count)
 unfolding finishedReset present
-reset-ppd b idle = ap (λ (r : Bridge). r .registers .status .ppd) (command-reset b (free b idle))
+reset-ppd b idle speed =
+    ap (λ (r : Bridge). r .registers .status .ppd) (command-reset b (free b idle)) ∙ ap (λ (v : ℕ). present v (b .line)) speed
 
-module _ (b : Bridge) (ps : List Probe) (rest : Rest) (line : b .line ≡ lineOf ps rest) (idle : b .registers .pending ≡ Nothing) where
-  pub reset-line : command (0xB4 ∷ []) b .line ≡ lineOf (map reset ps) rest
+module _ (b : Bridge) (ps : List Probe) (rest : Rest) (line : b .line ≡ lineOf ps rest) (idle : b .registers .pending ≡ Nothing) (speed : speedOf (b .registers) ≡ standard) where
+  reset-line : command (0xB4 ∷ []) b .line ≡ lineOf (map (reset standard) ps) rest
   unfolding finishedReset
-  reset-line = ap (λ (r : Bridge). r .line) (command-reset b (free b idle)) ∙ ap resetAll line ∙ resetAll-lineOf ps rest
+  reset-line =
+      ap (λ (r : Bridge). r .line) (command-reset b (free b idle)) ∙ ap₂ afterReset speed line ∙ afterReset-lineOf ps rest
 
-  pub reset-idle : command (0xB4 ∷ []) b .registers .pending ≡ Nothing
+  reset-idle : command (0xB4 ∷ []) b .registers .pending ≡ Nothing
   unfolding finishedReset
   reset-idle = ap (λ (r : Bridge). r .registers .pending) (command-reset b (free b idle))
 
-  -- all probes obey the byte written after the reset
-  pub commanded-line : (x : ℕ) → command (0xA5 ∷ x ∷ []) (command (0xB4 ∷ []) b) .line ≡ lineOf (map (obeyed (gathered 8 x 0)) ps) rest
+  reset-speed : speedOf (command (0xB4 ∷ []) b .registers) ≡ standard
+  unfolding finishedReset
+  reset-speed = ap (λ (r : Bridge). speedOf (r .registers)) (command-reset b (free b idle)) ∙ speed
+
+  -- the byte written after the reset
+  written : (x : ℕ) → command (0xA5 ∷ x ∷ []) (command (0xB4 ∷ []) b) ≡ finishedWrite x (withRegisters (pended (WriteByte x) (command (0xB4 ∷ []) b .registers)) (command (0xB4 ∷ []) b))
+  written x = command-write (command (0xB4 ∷ []) b) (free (command (0xB4 ∷ []) b) reset-idle) x
+
+  -- all probes obey it, at standard speed
+  pub commanded-line : (x : ℕ) → command (0xA5 ∷ x ∷ []) (command (0xB4 ∷ []) b) .line ≡ lineOf (map (commanded (gathered 8 x 0)) ps) rest
   unfolding finishedWrite
   commanded-line x =
-      ap (λ (r : Bridge). r .line) (command-write (command (0xB4 ∷ []) b) (free (command (0xB4 ∷ []) b) reset-idle) x)
-      ∙ ap (slots 8 x) reset-line
-      ∙ slots-reset x ps rest
+      ap (λ (r : Bridge). r .line) (written x) ∙ ap₂ (λ (v : ℕ) (l : Line). slots v 8 x l) reset-speed reset-line ∙ slots-reset x ps rest
 
-  pub commanded-idle : (x : ℕ) → command (0xA5 ∷ x ∷ []) (command (0xB4 ∷ []) b) .registers .pending ≡ Nothing
+  commanded-idle : (x : ℕ) → command (0xA5 ∷ x ∷ []) (command (0xB4 ∷ []) b) .registers .pending ≡ Nothing
   unfolding finishedWrite
-  commanded-idle x = ap (λ (r : Bridge). r .registers .pending) (command-write (command (0xB4 ∷ []) b) (free (command (0xB4 ∷ []) b) reset-idle) x)
+  commanded-idle x = ap (λ (r : Bridge). r .registers .pending) (written x)
+
+  commanded-speed : (x : ℕ) → speedOf (command (0xA5 ∷ x ∷ []) (command (0xB4 ∷ []) b) .registers) ≡ standard
+  unfolding finishedWrite
+  commanded-speed x = ap (λ (r : Bridge). speedOf (r .registers)) (written x) ∙ reset-speed
 
 -- ---- a pass
 
@@ -234,7 +251,7 @@ module _ {ids : List ℕ} {rest : Rest} {b : Bridge} (t : Idle ids rest b) where
   searching-line : command (0xA5 ∷ 0xF0 ∷ []) (command (0xB4 ∷ []) b) .line ≡ lineOf (map (standing 0 0) ids) rest
   unfolding gathered
   searching-line =
-      commanded-line b (t .holds .probes) rest (t .holds .line) (t .idle) 0xF0
+      commanded-line b (t .holds .probes) rest (t .holds .line) (t .idle) (t .speed) 0xF0
       ∙ ap (λ (ps : List Probe). lineOf ps rest)
       (ap (λ (f : Probe → Probe). map f (t .holds .probes)) (fun-ext obeyed-search)
       ∙ sym (map-map (standing 0 0) idOf (t .holds .probes))
@@ -243,7 +260,12 @@ module _ {ids : List ℕ} {rest : Rest} {b : Bridge} (t : Idle ids rest b) where
   -- before its first triplet a pass is on the path of no bit
   pub searching-under : Under ids rest 0 0 (begun (command (0xA5 ∷ 0xF0 ∷ []) (command (0xB4 ∷ []) b)))
   searching-under =
-      record { line = searching-line; idle = commanded-idle b (t .holds .probes) rest (t .holds .line) (t .idle) 0xF0; path = refl }
+      record {
+        line = searching-line;
+        idle = commanded-idle b (t .holds .probes) rest (t .holds .line) (t .idle) (t .speed) 0xF0;
+        speed = commanded-speed b (t .holds .probes) rest (t .holds .line) (t .idle) (t .speed) 0xF0;
+        path = refl;
+      }
 
   pub passed-on : (i : ℕ) (c : Conflict) → has ids 0 0 ≡ true → Under ids rest 64 (ending (has ids) (direction i c) 64 0 0) (passed i c (command (0xB4 ∷ []) b)) × (passed i c (command (0xB4 ∷ []) b) .conflict ≡ onto (last (has ids) (direction i c) 64 0 0) Nowhere)
   unfolding passed
@@ -255,4 +277,5 @@ under-idle {ids} {rest} {k} {a} u =
     record {
       holds = record { probes = map (standing k a) ids; line = u .line; same = ids-standing k a ids };
       idle = u .idle;
+      speed = u .speed;
     }

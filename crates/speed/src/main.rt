@@ -5,6 +5,7 @@
 //   s   1-Wire Reset, Search ROM and 64 triplets: a whole pass of a search
 //   p   1-Wire Reset, Read ROM and eight bytes written: every probe sends in every slot
 //   m   1-Wire Reset, Search ROM and eight bytes read
+//   W, R, S, P, M   the same at overdrive: all probes and the bridge are put there before the rounds, and the bridge back behind them
 //   f   a full search
 // After each work it prints the status and the read-data byte, and for f before them the CRC-16 of the list.
 use bridge::Bridge;
@@ -95,6 +96,27 @@ fn rounds(before: Bridge, work: u8) -> Bridge {
     bridge
 }
 
+// All probes and the bridge at overdrive, by Overdrive-Skip ROM.
+fn quickened(bridge: Bridge) -> Bridge {
+    let slow = pass::command(bridge, &[0xD2, 0xF0]);
+    let reset = pass::command(slow, &[0xB4]);
+    let skipped = pass::command(reset, &[0xA5, 0x3C]);
+    pass::command(skipped, &[0xD2, 0x78])
+}
+
+// The bridge at standard speed, its pointer at the status.
+fn slowed(bridge: Bridge) -> Bridge {
+    let slow = pass::command(bridge, &[0xD2, 0xF0]);
+    pass::command(slow, &[0xE1, 0xF0])
+}
+
+fn worked(before: Bridge, work: u8) -> Bridge {
+    match work {
+        b'A'..=b'Z' => slowed(rounds(quickened(before), work + 32)),
+        _ => rounds(before, work),
+    }
+}
+
 fn shown(bridge: Bridge) {
     io::print_hex(1, bridge.read() as u64, 2);
     io::write_all(1, b" ");
@@ -110,7 +132,7 @@ fn main() {
     let mut bridge = with_64();
     let mut i = 0;
     while i < n {
-        bridge = rounds(bridge, works[i]);
+        bridge = worked(bridge, works[i]);
         shown(bridge);
         i += 1;
     }

@@ -1,6 +1,7 @@
-// The three slots of a triplet, in one go.
+// The three slots of a triplet, in one go where that is the same as slot after slot.
 //
-// The first two levels are found without moving the line; once the bit of the third slot is chosen, each probe takes all three at once.
+// While a search goes on, every probe rests or is in the first slot of a search bit. Then the first two levels are found without moving the
+// line, the bit of the third slot follows from them, and each searching probe takes it.
 //
 // Worked example: a searching probe whose next bit is 1 gives the levels 1 and 0, and after a third slot of 1 it searches on.
 use line::Line;
@@ -9,113 +10,34 @@ use probe::Probe;
 use probe::Slot;
 ghost use mathlib.Core.Path.{_≡_};
 ghost use mathlib.Core.Bool.{true, false};
-ghost use Rattle.line.specs.Line.{all, fitted, onFitted, level, slot};
+ghost use Rattle.line.specs.Line.{all, fitted, onFitted};
 ghost use Rattle.probe.specs.Probe.{agrees, withMark};
-ghost use Rattle.triplet_slots.specs.After.{sendsAfter, sendsAfterTwo, tookTwo, tookThree};
+ghost use Rattle.triplet_slots.specs.Triplet.{chosen as chosenBy, firstLevel, secondLevel, writtenBit, afterTriplet};
+ghost use Rattle.triplet_slots.specs.Triplet.{settled as settledAt, decided};
 
 // The number of an ID's last bit.
 const LAST_BIT: u8 = 63;
 
-// The levels of two slots.
-pub struct TwoLevels {
+// The levels of the first two slots, the bit written in the third, and the line after them.
+pub struct Tripled {
     pub first: bool,
     pub second: bool,
+    pub bit: bool,
+    pub line: Line,
 }
 
-// What the probe lets the line be in the slot after one of this level. A searching probe sends the bit and then its complement.
-fn sends_after(p: Probe, level: bool) -> bool
-    ensures { λ r. ⌜ r ≡ sendsAfter level p ⌝ }
+// The bit that a triplet writes after its two levels.
+fn chosen(first: bool, second: bool, direction: bool) -> bool
+    ensures { λ r. ⌜ r ≡ chosenBy first second direction ⌝ }
 {
-    let condition = p.condition;
-    match condition {
-        Condition::Deaf => true,
-        Condition::Selected => true,
-        Condition::Searching { bit, slot } => match slot {
-            Slot::First => !identity::bit(p.id, bit),
-            _ => p.took(level).sends(),
-        },
-        _ => p.took(level).sends(),
-    }
-}
-
-// The probe after two slots. A searching probe that was in the first is in the third, whatever the levels.
-fn took_two(p: Probe, first: bool, second: bool) -> Probe
-    ensures { λ r. ⌜ r ≡ tookTwo first second p ⌝ }
-{
-    let condition = p.condition;
-    match condition {
-        Condition::Searching { bit, slot } => match slot {
-            Slot::First => Probe {
-                id: p.id,
-                marked: p.marked,
-                condition: Condition::Searching {
-                    bit,
-                    slot: Slot::Third,
-                },
-            },
-            _ => p.took(first).took(second),
-        },
-        _ => p.took(first).took(second),
-    }
-}
-
-fn sends_after_two(p: Probe, first: bool, second: bool) -> bool
-    ensures { λ r. ⌜ r ≡ sendsAfterTwo first second p ⌝ }
-{
-    if p.rests() {
+    if first {
         true
     } else {
-        took_two(p, first, second).sends()
+        if second { false } else { direction }
     }
 }
 
-// The probe after three slots. A searching probe that was in the first takes the third level alone.
-fn took_three(p: Probe, first: bool, second: bool, third: bool) -> Probe
-    ensures { λ r. ⌜ r ≡ tookThree first second third p ⌝ }
-{
-    let condition = p.condition;
-    match condition {
-        Condition::Searching { bit, slot } => match slot {
-            Slot::First => p.took_third(bit, third),
-            _ => took_two(p, first, second).took(third),
-        },
-        _ => took_two(p, first, second).took(third),
-    }
-}
-
-// No probe sends 0 in the slot after one of this level.
-fn all_send_after(line: Line, level: bool) -> bool
-    ensures { λ r. ⌜ r ≡ all (sendsAfter level) (fitted line) ⌝ }
-{
-    let n = line.entries();
-    let mut i = 0;
-    while i < n {
-        let p = line.probes[i];
-        if !sends_after(p, level) {
-            return false;
-        }
-        i += 1;
-    }
-    true
-}
-
-// No probe sends 0 in the slot after two of these levels.
-fn all_send_after_two(line: Line, first: bool, second: bool) -> bool
-    ensures { λ r. ⌜ r ≡ all (sendsAfterTwo first second) (fitted line) ⌝ }
-{
-    let n = line.entries();
-    let mut i = 0;
-    while i < n {
-        let p = line.probes[i];
-        if !sends_after_two(p, first, second) {
-            return false;
-        }
-        i += 1;
-    }
-    true
-}
-
-// The third level is the probe's own bit.
+// The level is the probe's own bit.
 fn agrees(p: Probe, bit: u8, level: bool) -> bool
     ensures { λ r. ⌜ r ≡ agrees level (p .id) bit ⌝ }
 {
@@ -133,14 +55,15 @@ fn turned(p: Probe, marked: bool, condition: Condition) -> Probe
     Probe {
         id: p.id,
         marked,
+        speed: p.speed,
         condition,
     }
 }
 
-// Every probe takes three levels, one after the other. Each outcome of one that searches has an assignment of its own, since one place that
-// stores what several ways have made waits for the memory.
-fn taken_three(mut line: Line, first: bool, second: bool, third: bool) -> Line
-    ensures { λ r. ⌜ r ≡ onFitted (tookThree first second third) line ⌝ }
+// Every searching probe takes the third level of its bit. Each outcome has an assignment of its own, since one place that stores what
+// several ways have made waits for the memory.
+fn all_decided(mut line: Line, level: bool) -> Line
+    ensures { λ r. ⌜ r ≡ onFitted (decided level) line ⌝ }
 {
     let n = line.entries();
     let mut i = 0;
@@ -148,39 +71,37 @@ fn taken_three(mut line: Line, first: bool, second: bool, third: bool) -> Line
         let at = i;
         let p = line.probes[at];
         i += 1;
-        if !p.rests() {
-            let condition = p.condition;
-            match condition {
-                Condition::Searching { bit, slot } => match slot {
-                    Slot::First => {
-                        if agrees(p, bit, third) {
-                            if bit < LAST_BIT {
-                                line.probes[at] = turned(
-                                    p,
-                                    p.marked,
-                                    Condition::Searching {
-                                        bit: bit + 1,
-                                        slot: Slot::First,
-                                    },
-                                );
-                            } else {
-                                line.probes[at] = turned(p, true, Condition::Selected);
-                            }
-                        } else {
-                            line.probes[at] = turned(p, p.marked, Condition::Deaf);
-                        }
+        let condition = p.condition;
+        match condition {
+            Condition::Deaf => {}
+            Condition::Taking { count: _, code: _ } => {}
+            Condition::Sending { bit: _ } => {}
+            Condition::Matching {
+                bit: _,
+                fallback: _,
+            } => {}
+            Condition::Searching { bit, slot: _ } => {
+                if agrees(p, bit, level) {
+                    if bit < LAST_BIT {
+                        let next = Condition::Searching {
+                            bit: bit + 1,
+                            slot: Slot::First,
+                        };
+                        line.probes[at] = turned(p, p.marked, next);
+                    } else {
+                        line.probes[at] = turned(p, true, Condition::Selected);
                     }
-                    _ => line.probes[at] = took_three(p, first, second, third),
-                },
-                _ => line.probes[at] = took_three(p, first, second, third),
+                } else {
+                    line.probes[at] = turned(p, p.marked, Condition::Deaf);
+                }
             }
+            Condition::Selected => {}
         }
     }
     line
 }
 
-// What two slots come to in which the bridge writes 1, where that is settled before they begin: every probe rests or is in the first
-// slot of a search.
+// What the first two slots come to, where that is settled before they begin.
 struct Prospect {
     settled: bool,
     first: bool,
@@ -197,8 +118,8 @@ fn unsettled() -> Prospect
     }
 }
 
-fn outlook(line: Line) -> Prospect
-    ensures { λ r. ⌜ (r .settled ≡ true → (r .first ≡ level true line) × (r .second ≡ level true (slot true line))) ⌝ }
+fn outlook(line: Line, speed: u8) -> Prospect
+    ensures { λ r. ⌜ (r .settled ≡ true → (all (settledAt speed) (fitted line) ≡ true) × (r .first ≡ firstLevel speed line) × (r .second ≡ secondLevel speed line)) ⌝ }
 {
     let n = line.entries();
     let mut first = true;
@@ -208,6 +129,9 @@ fn outlook(line: Line) -> Prospect
         let p = line.probes[i];
         i += 1;
         if !p.rests() {
+            if !p.reached(speed) {
+                return unsettled();
+            }
             let condition = p.condition;
             let Condition::Searching { bit, slot } = condition else {
                 return unsettled();
@@ -229,30 +153,40 @@ fn outlook(line: Line) -> Prospect
     }
 }
 
-// The levels of two slots in which the bridge writes 1.
-pub fn two_levels(line: Line) -> TwoLevels
-    ensures { λ r. ⌜ (r .first ≡ level true line) × (r .second ≡ level true (slot true line)) ⌝ }
+fn slot_by_slot(start: Line, speed: u8, direction: bool) -> Tripled
+    ensures { λ r. ⌜ (r .first ≡ firstLevel speed start) × (r .second ≡ secondLevel speed start)
+        × (r .bit ≡ writtenBit speed direction start) × (r .line ≡ afterTriplet speed direction start) ⌝ }
 {
-    let ahead = outlook(line);
-    if ahead.settled {
-        return TwoLevels {
-            first: ahead.first,
-            second: ahead.second,
-        };
+    let one = start.slot(speed, true);
+    let once = one.line;
+    let two = once.slot(speed, true);
+    let twice = two.line;
+    let bit = chosen(one.level, two.level, direction);
+    let three = twice.slot(speed, bit);
+    let line = three.line;
+    Tripled {
+        first: one.level,
+        second: two.level,
+        bit,
+        line,
     }
-    let first = line.level(true);
-    let second = all_send_after(line, first);
-    TwoLevels { first, second }
 }
 
-// Two slots of these levels and one in which the bridge writes a bit; each probe takes the three in one go.
-pub fn slot_after_two(line: Line, first: bool, second: bool, write: bool) -> Line
-    ensures { λ r. ⌜ r ≡ slot write (onFitted (tookTwo first second) line) ⌝ }
+// A triplet at this speed: two slots in which the bridge writes 1, then one with the bit that their levels and the direction choose.
+pub fn triplet(line: Line, speed: u8, direction: bool) -> Tripled
+    ensures { λ r. ⌜ (r .first ≡ firstLevel speed line) × (r .second ≡ secondLevel speed line)
+        × (r .bit ≡ writtenBit speed direction line) × (r .line ≡ afterTriplet speed direction line) ⌝ }
 {
-    if write {
-        let third = all_send_after_two(line, first, second);
-        taken_three(line, first, second, third)
+    let ahead = outlook(line, speed);
+    if ahead.settled {
+        let bit = chosen(ahead.first, ahead.second, direction);
+        Tripled {
+            first: ahead.first,
+            second: ahead.second,
+            bit,
+            line: all_decided(line, bit),
+        }
     } else {
-        taken_three(line, first, second, false)
+        slot_by_slot(line, speed, direction)
     }
 }

@@ -15,18 +15,18 @@ use Rattle.byte_slots.proofs.outlook.Statement.{statement}
 use Rattle.byte_slots.proofs.outlook.Tie as tie
 
 abbrev Inv-loop : tie.InvT-loop
-Inv-loop byte line n levels₀ i₀ levels i =
-    (i ≤ n) × (all (foreseen 8) (take i (line .probes)) ≡ true) × (levels ≡ meet 8 byte (take i (line .probes)))
+Inv-loop speed byte line n levels₀ i₀ levels i =
+    (i ≤ n) × (all (foreseen speed 8) (take i (line .probes)) ≡ true) × (levels ≡ meet 8 byte (take i (line .probes)))
 
 abbrev μ-loop : tie.MeasureT-loop
-μ-loop byte line n levels₀ i₀ levels i = n - i
+μ-loop speed byte line n levels₀ i₀ levels i = n - i
 
 entries-requires : tie.Need-entries-requires Inv-loop μ-loop
 entries-requires c κs = search needs
 
 loop-holds : tie.Need-loop-holds Inv-loop μ-loop
 unfolding meet
-loop-holds c = (omega arith, all-none (foreseen 8) (c .before .args .t1 .probes), refl)
+loop-holds c = (omega arith, all-none (foreseen (c .before .args .speed) 8) (c .before .args .t1 .probes), refl)
 
 mul-p : tie.Need-mul-p Inv-loop μ-loop
 mul-p c = omega arith
@@ -55,7 +55,7 @@ loop-again c =
     let a = c .before .before .before .before .before .before .before .args in
     let seen = sym (c .before .before .foreseen .ensures) ∙ not-false _ (c .before .if1 .left) in (
       omega arith,
-      all-next (foreseen 8) (a .t1 .probes) (l .i) _ (omega arith) (l .inv .1) seen,
+      all-next (foreseen (a .speed) 8) (a .t1 .probes) (l .i) _ (omega arith) (l .inv .1) seen,
       ap₂ bitAnd (l .inv .2) (c .ahead .ensures) ∙ meet-next 8 (a .byte) (l .i) (a .t1 .probes) _ (omega arith),
     )
 
@@ -66,7 +66,7 @@ returns-2 c _ =
     let a = c .before .before .before .args in
     let stop : l .i ≡ e .result = omega arith in
     let front : take (l .i) (a .t1 .probes) ≡ fitted (a .t1) = ap (λ (k : ℕ). take k (a .t1 .probes)) stop ∙ e .ensures .2 in
-    (sym (ap (all (foreseen 8)) front) ∙ l .inv .1, l .inv .2 ∙ ap (meet 8 (a .byte)) front)
+    (sym (ap (all (foreseen (a .speed) 8)) front) ∙ l .inv .1, l .inv .2 ∙ ap (meet 8 (a .byte)) front)
 
 pub outlook-spec : {M : Type 1} → statement M
 outlook-spec =

@@ -17,7 +17,7 @@ returns : tie.Need-returns
 returns c =
     let a = c .before .before .args in
     let resting = sym (c .before .all-rest .ensures) ∙ c .if1 .taken in
-    (omega (arith, levels-rest 8 (a .byte) (a .line) resting), sym (slots-rest 8 (a .byte) (a .line) resting))
+    (omega (arith, levels-rest (a .speed) 8 (a .byte) (a .line) resting), sym (slots-rest (a .speed) 8 (a .byte) (a .line) resting))
 
 outlook-requires : tie.Need-outlook-requires
 outlook-requires c κs = search needs
@@ -35,8 +35,8 @@ returns-2 c =
     let known = at .ensures (c .before .if2 .taken) in
     let found : at .result .levels ≡ meet 8 (a .byte) (fitted (a .line)) = known .1 in
     let took : c .taken-byte .result ≡ onFitted (tookBits 8 (at .result .levels)) (a .line) = c .taken-byte .ensures in (
-      omega arith ∙ ap (λ (m : ℕ). m % 256) found ∙ sym (levels-foreseen 8 (a .byte) (a .line) (known .0)),
-      took ∙ ap (λ (m : ℕ). onFitted (tookBits 8 m) (a .line)) found ∙ sym (slots-foreseen 8 (a .byte) (a .line) (known .0)),
+      omega arith ∙ ap (λ (m : ℕ). m % 256) found ∙ sym (levels-foreseen (a .speed) 8 (a .byte) (a .line) (known .0)),
+      took ∙ ap (λ (m : ℕ). onFitted (tookBits 8 m) (a .line)) found ∙ sym (slots-foreseen (a .speed) 8 (a .byte) (a .line) (known .0)),
     )
 
 returns-3 : tie.Need-returns-3

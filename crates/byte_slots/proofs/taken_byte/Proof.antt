@@ -89,8 +89,8 @@ enum-known-condition c = search needs
 begun-requires : tie.Need-begun-requires Inv-loop μ-loop
 begun-requires c κs = search needs
 
-mul-t20 : tie.Need-mul-t20 Inv-loop μ-loop
-mul-t20 c = omega arith
+mul-t21 : tie.Need-mul-t21 Inv-loop μ-loop
+mul-t21 c = omega arith
 
 element-set-from-line : tie.Need-element-set-from-line Inv-loop μ-loop
 element-set-from-line c = omega arith
@@ -103,8 +103,8 @@ unfolding obeyed
 loop-again-2 c =
     obeys (c .before .before .before .before .before .before) _ 0x33 (c .before .before .before .before .condition .given .1) (c .before .before .match2 .keys1) (omega arith) (c .before .match3 .keys1) (c .begun .ensures)
 
-begun-requires-2 : tie.Need-begun-requires-2 Inv-loop μ-loop
-begun-requires-2 c κs = search needs
+begun-match-requires : tie.Need-begun-match-requires Inv-loop μ-loop
+begun-match-requires c κs = search needs
 
 mul-t25 : tie.Need-mul-t25 Inv-loop μ-loop
 mul-t25 c = omega arith
@@ -118,10 +118,10 @@ loop-less-3 c = omega arith
 loop-again-3 : tie.Need-loop-again-3 Inv-loop μ-loop
 unfolding obeyed
 loop-again-3 c =
-    obeys (c .before .before .before .before .before .before) _ 0x55 (c .before .before .before .before .condition .given .1) (c .before .before .match2 .keys1) (omega arith) (c .before .match3 .keys2) (c .begun2 .ensures)
+    obeys (c .before .before .before .before .before .before) _ 0x55 (c .before .before .before .before .condition .given .1) (c .before .before .match2 .keys1) (omega arith) (c .before .match3 .keys2) (c .begun-match .ensures)
 
-begun-requires-3 : tie.Need-begun-requires-3 Inv-loop μ-loop
-begun-requires-3 c κs = search needs
+begun-requires-2 : tie.Need-begun-requires-2 Inv-loop μ-loop
+begun-requires-2 c κs = search needs
 
 mul-t31 : tie.Need-mul-t31 Inv-loop μ-loop
 mul-t31 c = omega arith
@@ -135,7 +135,7 @@ loop-less-4 c = omega arith
 loop-again-4 : tie.Need-loop-again-4 Inv-loop μ-loop
 unfolding obeyed
 loop-again-4 c =
-    obeys (c .before .before .before .before .before .before) _ 0xF0 (c .before .before .before .before .condition .given .1) (c .before .before .match2 .keys1) (omega arith) (c .before .match3 .keys3) (c .begun3 .ensures)
+    obeys (c .before .before .before .before .before .before) _ 0xF0 (c .before .before .before .before .condition .given .1) (c .before .before .match2 .keys1) (omega arith) (c .before .match3 .keys3) (c .begun2 .ensures)
 
 obeyed-requires : tie.Need-obeyed-requires Inv-loop μ-loop
 obeyed-requires c κs = search needs
@@ -294,16 +294,16 @@ taken-byte-spec =
     loop-again
     enum-known-condition
     begun-requires
-    mul-t20
+    mul-t21
     element-set-from-line
     loop-less-2
     loop-again-2
-    begun-requires-2
+    begun-match-requires
     mul-t25
     element-set-from-line-2
     loop-less-3
     loop-again-3
-    begun-requires-3
+    begun-requires-2
     mul-t31
     element-set-from-line-3
     loop-less-4

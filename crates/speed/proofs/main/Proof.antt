@@ -22,11 +22,11 @@ with-64-requires c κs = search needs
 loop-holds : tie.Need-loop-holds Inv-loop μ-loop
 loop-holds c = search needs
 
-array-read-rounds : tie.Need-array-read-rounds Inv-loop μ-loop
-array-read-rounds c = search needs
+array-read-worked : tie.Need-array-read-worked Inv-loop μ-loop
+array-read-worked c = search needs
 
-rounds-requires : tie.Need-rounds-requires Inv-loop μ-loop
-rounds-requires c κs = search needs
+worked-requires : tie.Need-worked-requires Inv-loop μ-loop
+worked-requires c κs = search needs
 
 shown-requires : tie.Need-shown-requires Inv-loop μ-loop
 shown-requires c κs = search needs
@@ -53,8 +53,8 @@ main-spec =
     read-full-requires
     with-64-requires
     loop-holds
-    array-read-rounds
-    rounds-requires
+    array-read-worked
+    worked-requires
     shown-requires
     add-i
     loop-less

@@ -5,6 +5,9 @@ use borrow.Author.Needs.{needs}
 use Rattle.bridge.proofs.Bridge.finished_reset.Statement.{statement}
 use Rattle.bridge.proofs.Bridge.finished_reset.Tie as tie
 
+speed-requires : tie.Need-speed-requires
+speed-requires c κs = search needs
+
 present-requires : tie.Need-present-requires
 present-requires c κs = search needs
 
@@ -16,9 +19,8 @@ reset-requires c κs = search needs
 
 returns : tie.Need-returns
 unfolding finishedReset
-returns c =
-    simp (c .reset .ensures, c .before .finished .ensures, c .before .before .present .ensures) refl
+returns c = simp (c .reset .ensures, c .before .finished .ensures, c .before .before .present .ensures, c .before .before .before .before .speed .ensures) refl
 
 pub finished-reset-spec : {M : Type 1} → statement M
 finished-reset-spec =
-    tie.close (tie.spec present-requires finished-requires reset-requires returns)
+    tie.close (tie.spec speed-requires present-requires finished-requires reset-requires returns)

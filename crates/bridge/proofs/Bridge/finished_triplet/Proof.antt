@@ -1,36 +1,23 @@
--- `Bridge::finished_triplet` meets its contract: two write-one slots by their levels, then the slot of the bit chosen.
+-- `Bridge::finished_triplet` meets its contract, by those of the triplet and of `finished`.
+use mathlib.Core.Path.{refl}
 use Rattle.bridge.specs.Bridge.{finishedTriplet}
-use Rattle.triplet_slots.proofs.After.{second-slot}
 use borrow.Author.Needs.{needs}
 use Rattle.bridge.proofs.Bridge.finished_triplet.Statement.{statement}
 use Rattle.bridge.proofs.Bridge.finished_triplet.Tie as tie
 
-two-levels-requires : tie.Need-two-levels-requires
-two-levels-requires c κs = search needs
+speed-requires : tie.Need-speed-requires
+speed-requires c κs = search needs
 
-chosen-requires : tie.Need-chosen-requires
-chosen-requires c κs = search needs
+triplet-requires : tie.Need-triplet-requires
+triplet-requires c κs = search needs
 
 finished-requires : tie.Need-finished-requires
 finished-requires c κs = search needs
 
-slot-after-two-requires : tie.Need-slot-after-two-requires
-slot-after-two-requires c κs = search needs
-
 returns : tie.Need-returns
 unfolding finishedTriplet
-returns c =
-    let chosen = c .before .before .before in
-    let two = chosen .before .two-levels .ensures in
-    let l = chosen .before .before .before .before .args .self .line in
-    simp (c .slot-after-two .ensures, c .before .finished .ensures, chosen .chosen .ensures, two .0, two .1, ← second-slot l)
+returns c = let s = c .before .before .before .triplet .ensures in simp (c .finished .ensures, s .0, s .1, s .2, s .3, c .before .before .before .before .speed .ensures) refl
 
 pub finished-triplet-spec : {M : Type 1} → statement M
 finished-triplet-spec =
-    tie.close
-    (tie.spec
-    two-levels-requires
-    chosen-requires
-    finished-requires
-    slot-after-two-requires
-    returns)
+    tie.close (tie.spec speed-requires triplet-requires finished-requires returns)

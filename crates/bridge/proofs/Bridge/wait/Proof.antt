@@ -1,5 +1,5 @@
 -- `Bridge::wait` meets its contract, command by command.
-use Rattle.bridge.specs.Bridge.{afterTime, finishedOf}
+use Rattle.bridge.specs.Bridge.{finishedOf, finishedWrite, finishedRead, afterTime}
 use borrow.Author.Needs.{needs}
 use Rattle.bridge.proofs.Bridge.wait.Statement.{statement}
 use Rattle.bridge.proofs.Bridge.wait.Tie as tie
@@ -22,14 +22,14 @@ finished-bit-requires c κs = search needs
 enum-known-pending-2 : tie.Need-enum-known-pending-2
 enum-known-pending-2 c = search needs
 
-finished-write-requires : tie.Need-finished-write-requires
-finished-write-requires c κs = search needs
+finished-byte-requires : tie.Need-finished-byte-requires
+finished-byte-requires c κs = search needs
 
 enum-told-3 : tie.Need-enum-told-3
 enum-told-3 c = search needs
 
-finished-read-requires : tie.Need-finished-read-requires
-finished-read-requires c κs = search needs
+finished-byte-requires-2 : tie.Need-finished-byte-requires-2
+finished-byte-requires-2 c κs = search needs
 
 enum-known-pending-3 : tie.Need-enum-known-pending-3
 enum-known-pending-3 c = search needs
@@ -50,12 +50,12 @@ unfolding afterTime finishedOf
 returns-3 c = simp (c .before .before .pending .given .1) (c .finished-bit .ensures)
 
 returns-4 : tie.Need-returns-4
-unfolding afterTime finishedOf
-returns-4 c = simp (c .before .before .pending2 .given .1) (c .finished-write .ensures)
+unfolding afterTime finishedOf finishedWrite
+returns-4 c = simp (c .before .before .pending2 .given .1) (c .finished-byte .ensures)
 
 returns-5 : tie.Need-returns-5
-unfolding afterTime finishedOf
-returns-5 c = simp (c .before .enum-told3 .given .1) (c .finished-read .ensures)
+unfolding afterTime finishedOf finishedRead
+returns-5 c = simp (c .before .enum-told3 .given .1) (c .finished-byte2 .ensures)
 
 returns-6 : tie.Need-returns-6
 unfolding afterTime finishedOf
@@ -71,9 +71,9 @@ wait-spec =
     enum-known-pending
     finished-bit-requires
     enum-known-pending-2
-    finished-write-requires
+    finished-byte-requires
     enum-told-3
-    finished-read-requires
+    finished-byte-requires-2
     enum-known-pending-3
     finished-triplet-requires
     returns

@@ -4,16 +4,17 @@ use Prim.Native.Nat.{ℕ, _≤_, _-_}
 use native.Mathlib.Omega.{arith}
 use borrow.Author.Needs.{needs}
 use Rattle.probe.specs.Probe.{reset}
-use Rattle.line.specs.Line.{resetAll}
+use Rattle.line.specs.Line.{afterReset}
 use Rattle.line.proofs.Steps.{after, after-next, after-all}
+use borrow.Author.Needs.{needs}
 use Rattle.line.proofs.Line.reset.Statement.{statement}
 use Rattle.line.proofs.Line.reset.Tie as tie
 
 abbrev Inv-loop : tie.InvT-loop
-Inv-loop self₀ n i₀ self i = (i ≤ n) × (self ≡ after reset i self₀)
+Inv-loop speed self₀ n i₀ self i = (i ≤ n) × (self ≡ after (reset speed) i self₀)
 
 abbrev μ-loop : tie.MeasureT-loop
-μ-loop self₀ n i₀ self i = n - i
+μ-loop speed self₀ n i₀ self i = n - i
 
 entries-requires : tie.Need-entries-requires Inv-loop μ-loop
 entries-requires c κs = search needs
@@ -30,8 +31,8 @@ element-copy-out-p c = omega arith
 reset-requires : tie.Need-reset-requires Inv-loop μ-loop
 reset-requires c κs = search needs
 
-mul-t8 : tie.Need-mul-t8 Inv-loop μ-loop
-mul-t8 c = omega arith
+mul-t9 : tie.Need-mul-t9 Inv-loop μ-loop
+mul-t9 c = omega arith
 
 element-set-from-self : tie.Need-element-set-from-self Inv-loop μ-loop
 element-set-from-self c = omega arith
@@ -43,22 +44,20 @@ loop-less : tie.Need-loop-less Inv-loop μ-loop
 loop-less c = omega arith
 
 loop-again : tie.Need-loop-again Inv-loop μ-loop
-loop-again c =
-    let l = c .before .before .before .loop in
+loop-again c = let l = c .before .before .before .loop in
     let a = c .before .before .before .before .before .args in (
       omega arith,
-      after-next reset (a .t1) (l .self) (l .i) _ (c .reset .result) (omega arith) (l .inv .1) (c .reset .ensures),
+      after-next (reset (a .speed)) (a .t1) (l .self) (l .i) _ (c .reset .result) (omega arith) (l .inv .1) (c .reset .ensures),
     )
 
 returns : tie.Need-returns Inv-loop μ-loop
-unfolding resetAll
-returns c =
-    let l = c .before .loop in
+unfolding afterReset
+returns c = let l = c .before .loop in
     let e = c .before .before .entries in
     let a = c .before .before .before .args in
     let stop : l .i ≡ e .result = omega arith in
-    l .inv .1 ∙ ap (λ (k : ℕ). after reset k (a .t1)) stop
-    ∙ after-all reset (a .t1) (e .result) (e .ensures .2) (e .ensures .3)
+    l .inv .1 ∙ ap (λ (k : ℕ). after (reset (a .speed)) k (a .t1)) stop
+    ∙ after-all (reset (a .speed)) (a .t1) (e .result) (e .ensures .2) (e .ensures .3)
 
 pub reset-spec : {M : Type 1} → statement M
 reset-spec =
@@ -71,7 +70,7 @@ reset-spec =
     mul-p
     element-copy-out-p
     reset-requires
-    mul-t8
+    mul-t9
     element-set-from-self
     add-i
     loop-less

@@ -2,7 +2,7 @@
 use mathlib.Core.Path.{_≡_, ap, _∙_}
 use mathlib.Core.Bool.{Bool}
 use borrow.Author.Needs.{needs}
-use Rattle.probe.specs.Probe.{took}
+use Rattle.probe.specs.Probe.{tookAt}
 use Rattle.line.specs.Line.{level, slot, onFitted}
 use Rattle.line.proofs.Line.slot.Statement.{statement}
 use Rattle.line.proofs.Line.slot.Tie as tie
@@ -16,9 +16,9 @@ taken-requires c κs = search needs
 returns : tie.Need-returns
 unfolding slot
 returns c =
-    let l = c .before .before .args .self in
-    let taken : c .taken .result ≡ onFitted (took (c .before .level .result)) l = c .taken .ensures in
-    (c .before .level .ensures, taken ∙ ap (λ (t : Bool). onFitted (took t) l) (c .before .level .ensures))
+    let a = c .before .before .args in
+    let taken : c .taken .result ≡ onFitted (tookAt (a .speed) (c .before .level .result)) (a .self) = c .taken .ensures in
+    (c .before .level .ensures, taken ∙ ap (λ (t : Bool). onFitted (tookAt (a .speed) t) (a .self)) (c .before .level .ensures))
 
 pub slot-spec : {M : Type 1} → statement M
 slot-spec = tie.close (tie.spec level-requires taken-requires returns)

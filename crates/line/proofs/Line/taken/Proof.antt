@@ -1,20 +1,23 @@
--- `line::Line::taken` meets its contract: the entries gone through have taken the level, those that rest too, whom it does not change.
+-- `line::Line::taken` meets its contract: the entries gone through have taken the level, those too that it does not change, since they rest or
+-- are at another speed.
 use mathlib.Core.Path.{_≡_, refl, sym, _∙_, ap}
+use mathlib.Core.Bool.{true, false}
 use Prim.Native.Nat.{ℕ, _≤_, _-_}
 use native.Mathlib.Omega.{arith}
 use borrow.Author.Needs.{needs}
 use borrow.Author.Tests.{not-false}
-use Rattle.probe.specs.Probe.{took}
+use Rattle.probe.specs.Probe.{tookAt}
+use Rattle.probe.proofs.Rests.{tookAt-rests, tookAt-reached}
 use Rattle.line.proofs.Steps.{after, after-next, after-kept, after-all}
-use Rattle.probe.proofs.Rests.{took-rests}
+use borrow.Author.Needs.{needs}
 use Rattle.line.proofs.Line.taken.Statement.{statement}
 use Rattle.line.proofs.Line.taken.Tie as tie
 
 abbrev Inv-loop : tie.InvT-loop
-Inv-loop level self₀ n i₀ self i = (i ≤ n) × (self ≡ after (took level) i self₀)
+Inv-loop speed level self₀ n i₀ self i = (i ≤ n) × (self ≡ after (tookAt speed level) i self₀)
 
 abbrev μ-loop : tie.MeasureT-loop
-μ-loop level self₀ n i₀ self i = n - i
+μ-loop speed level self₀ n i₀ self i = n - i
 
 entries-requires : tie.Need-entries-requires Inv-loop μ-loop
 entries-requires c κs = search needs
@@ -34,11 +37,14 @@ add-i c = omega arith
 rests-requires : tie.Need-rests-requires Inv-loop μ-loop
 rests-requires c κs = search needs
 
+reached-requires : tie.Need-reached-requires Inv-loop μ-loop
+reached-requires c κs = search needs
+
 took-requires : tie.Need-took-requires Inv-loop μ-loop
 took-requires c κs = search needs
 
-mul-t16 : tie.Need-mul-t16 Inv-loop μ-loop
-mul-t16 c = omega arith
+mul-t18 : tie.Need-mul-t18 Inv-loop μ-loop
+mul-t18 c = omega arith
 
 element-set-from-self : tie.Need-element-set-from-self Inv-loop μ-loop
 element-set-from-self c = omega arith
@@ -47,33 +53,45 @@ loop-less : tie.Need-loop-less Inv-loop μ-loop
 loop-less c = omega arith
 
 loop-again : tie.Need-loop-again Inv-loop μ-loop
-loop-again c =
-    let l = c .before .before .before .before .before .loop in
-    let a = c .before .before .before .before .before .before .before .args in (
+loop-again c = let l = c .before .before .before .before .before .before .before .loop in
+    let a = c .before .before .before .before .before .before .before .before .before .args in
+    let reached = sym (c .before .before .reached .ensures) ∙ c .before .if2 .taken in (
       omega arith,
-      after-next (took (a .level)) (a .t1) (l .self) (l .i) _ (c .took .result) (omega arith) (l .inv .1) (c .took .ensures),
+      after-next (tookAt (a .speed) (a .level)) (a .t1) (l .self) (l .i) _ (c .took .result) (omega arith) (l .inv .1)
+          (c .took .ensures ∙ sym (tookAt-reached (a .speed) (a .level) _ true reached)),
     )
 
 loop-less-2 : tie.Need-loop-less-2 Inv-loop μ-loop
 loop-less-2 c = omega arith
 
 loop-again-2 : tie.Need-loop-again-2 Inv-loop μ-loop
-loop-again-2 c =
-    let l = c .before .before .before .before .loop in
+loop-again-2 c = let l = c .before .before .before .before .before .before .loop in
+    let a = c .before .before .before .before .before .before .before .before .args in
+    let reached = sym (c .before .reached .ensures) ∙ c .if2 .left in (
+      omega arith,
+      after-kept (tookAt (a .speed) (a .level)) (a .t1) (l .self) (l .i) _ (omega arith) (l .inv .1)
+          (tookAt-reached (a .speed) (a .level) _ false reached),
+    )
+
+loop-less-3 : tie.Need-loop-less-3 Inv-loop μ-loop
+loop-less-3 c = omega arith
+
+loop-again-3 : tie.Need-loop-again-3 Inv-loop μ-loop
+loop-again-3 c = let l = c .before .before .before .before .loop in
     let a = c .before .before .before .before .before .before .args in
     let resting = sym (c .before .rests .ensures) ∙ not-false _ (c .if1 .left) in (
       omega arith,
-      after-kept (took (a .level)) (a .t1) (l .self) (l .i) _ (omega arith) (l .inv .1) (took-rests (a .level) _ resting),
+      after-kept (tookAt (a .speed) (a .level)) (a .t1) (l .self) (l .i) _ (omega arith) (l .inv .1)
+          (tookAt-rests (a .speed) (a .level) _ resting),
     )
 
 returns : tie.Need-returns Inv-loop μ-loop
-returns c =
-    let l = c .before .loop in
+returns c = let l = c .before .loop in
     let e = c .before .before .entries in
     let a = c .before .before .before .args in
     let stop : l .i ≡ e .result = omega arith in
-    l .inv .1 ∙ ap (λ (k : ℕ). after (took (a .level)) k (a .t1)) stop
-    ∙ after-all (took (a .level)) (a .t1) (e .result) (e .ensures .2) (e .ensures .3)
+    l .inv .1 ∙ ap (λ (k : ℕ). after (tookAt (a .speed) (a .level)) k (a .t1)) stop
+    ∙ after-all (tookAt (a .speed) (a .level)) (a .t1) (e .result) (e .ensures .2) (e .ensures .3)
 
 pub taken-spec : {M : Type 1} → statement M
 taken-spec =
@@ -87,11 +105,14 @@ taken-spec =
     element-copy-out-p
     add-i
     rests-requires
+    reached-requires
     took-requires
-    mul-t16
+    mul-t18
     element-set-from-self
     loop-less
     loop-again
     loop-less-2
     loop-again-2
+    loop-less-3
+    loop-again-3
     returns)
