@@ -11,7 +11,7 @@ use probe::MATCH_ROM;
 use probe::Probe;
 use probe::READ_ROM;
 use probe::SEARCH_ROM;
-use probe::Slot;
+use probe::SEARCHING;
 ghost use mathlib.Core.Path.{_≡_};
 ghost use Prim.Native.Nat.{_+_, _*_, _/_, _%_, _^_};
 ghost use mathlib.Core.Bool.{true, false};
@@ -25,12 +25,6 @@ pub struct Levels {
     pub byte: u8,
     pub line: Line,
 }
-
-// What a probe is in once it has taken Search ROM.
-const SEARCHING: Condition = Condition::Searching {
-    bit: 0,
-    slot: Slot::First,
-};
 
 // The number of a bit from which eight are left.
 const LAST_EIGHT: u8 = 56;

@@ -7,8 +7,9 @@
 // Worked example: a probe that has taken seven bits of CCh and takes a last 1 is selected.
 ghost use mathlib.Core.Path.{_≡_};
 ghost use Prim.Native.Nat.{_+_, _*_, _/_};
+ghost use Rattle.probe.specs.declared.Condition.the-variants.{Matching};
 ghost use Rattle.probe.specs.Probe.{deafNew, inCondition, withMark, reaches, sendsSearching, sends, resumed};
-ghost use Rattle.probe.specs.Probe.{overdriveSkipped, overdriveMatching, obeyed, reset, digit, agrees};
+ghost use Rattle.probe.specs.Probe.{overdrive, atSpeed, obeyed, reset, digit, agrees};
 ghost use Rattle.probe.specs.Probe.{tookCode, tookSending, tookMatching, tookSearching, took, rests};
 
 // The ROM commands.
@@ -59,6 +60,12 @@ pub enum Condition {
     Selected,
 }
 
+// What a probe is in once it has taken Search ROM.
+pub const SEARCHING: Condition = Condition::Searching {
+    bit: 0,
+    slot: Slot::First,
+};
+
 pub struct Probe {
     pub id: u64,
     pub marked: bool,
@@ -71,6 +78,13 @@ fn code_with(code: u8, level: bool) -> u8
     ensures { λ r. ⌜ r ≡ code / 2 + 128 * digit level ⌝ }
 {
     if level { code / 2 + 128 } else { code / 2 }
+}
+
+// What a probe is in once it has taken a command to match its ID.
+fn matching(fallback: u8) -> Condition
+    ensures { λ r. ⌜ r ≡ Matching 0 fallback ⌝ }
+{
+    Condition::Matching { bit: 0, fallback }
 }
 
 // What Resume makes of a probe with this mark.
@@ -119,6 +133,17 @@ impl Probe {
         }
     }
 
+    fn at_overdrive(self, marked: bool, condition: Condition) -> Probe
+        ensures { λ r. ⌜ r ≡ withMark (atSpeed overdrive self) marked condition ⌝ }
+    {
+        Probe {
+            id: self.id,
+            marked,
+            speed: OVERDRIVE,
+            condition,
+        }
+    }
+
     // Slots at this speed reach the probe.
     pub fn reached(self, speed: u8) -> bool
         ensures { λ r. ⌜ r ≡ reaches speed self ⌝ }
@@ -158,55 +183,17 @@ impl Probe {
 
     // ---- what a probe becomes
 
-    // The mark is cleared and the speed set at once.
-    fn overdrive_skipped(self) -> Probe
-        ensures { λ r. ⌜ r ≡ overdriveSkipped self ⌝ }
-    {
-        Probe {
-            id: self.id,
-            marked: false,
-            speed: OVERDRIVE,
-            condition: Condition::Selected,
-        }
-    }
-
-    fn overdrive_matching(self) -> Probe
-        ensures { λ r. ⌜ r ≡ overdriveMatching self ⌝ }
-    {
-        Probe {
-            id: self.id,
-            marked: false,
-            speed: OVERDRIVE,
-            condition: Condition::Matching {
-                bit: 0,
-                fallback: STANDARD,
-            },
-        }
-    }
-
     // The probe once a ROM command is whole.
     pub fn obeyed(self, code: u8) -> Probe
         ensures { λ r. ⌜ r ≡ obeyed code self ⌝ }
     {
         match code {
             READ_ROM => self.with_mark(false, Condition::Sending { bit: 0 }),
-            MATCH_ROM => self.with_mark(
-                false,
-                Condition::Matching {
-                    bit: 0,
-                    fallback: self.speed,
-                },
-            ),
-            SEARCH_ROM => self.with_mark(
-                false,
-                Condition::Searching {
-                    bit: 0,
-                    slot: Slot::First,
-                },
-            ),
+            MATCH_ROM => self.with_mark(false, matching(self.speed)),
+            SEARCH_ROM => self.with_mark(false, SEARCHING),
             SKIP_ROM => self.with_mark(false, Condition::Selected),
-            OVERDRIVE_SKIP_ROM => self.overdrive_skipped(),
-            OVERDRIVE_MATCH_ROM => self.overdrive_matching(),
+            OVERDRIVE_SKIP_ROM => self.at_overdrive(false, Condition::Selected),
+            OVERDRIVE_MATCH_ROM => self.at_overdrive(false, matching(STANDARD)),
             RESUME => self.in_condition(resumed(self.marked)),
             _ => self.in_condition(Condition::Deaf),
         }

@@ -59,19 +59,23 @@ unfolding foreseen foreseenIn
 returns c = sym (by-condition _ _ (c .enum-told .given .1))
 
 returns-2 : tie.Need-returns-2
-returns-2 c = let found = c .before .before .before .condition .given in
+returns-2 c =
+    let found = c .before .before .before .condition .given in
     c .reached .ensures ∙ sym (by-code _ _ true (found .1) (le-leb (found .0 .0 + 8) 8 (omega arith)))
 
 returns-3 : tie.Need-returns-3
-returns-3 c = let found = c .before .before .condition .given in
+returns-3 c =
+    let found = c .before .before .condition .given in
     sym (by-code _ _ false (found .1) (lt-leb (found .0 .0 + 8) 8 (omega arith)))
 
 returns-4 : tie.Need-returns-4
-returns-4 c = let found = c .before .before .before .condition2 .given in
+returns-4 c =
+    let found = c .before .before .before .condition2 .given in
     c .reached2 .ensures ∙ sym (by-bit _ _ true (found .1) (le-leb (found .0 .0 + 8) 64 (omega arith)))
 
 returns-5 : tie.Need-returns-5
-returns-5 c = let found = c .before .before .condition2 .given in
+returns-5 c =
+    let found = c .before .before .condition2 .given in
     sym (by-bit _ _ false (found .1) (lt-leb (found .0 .0 + 8) 64 (omega arith)))
 
 returns-6 : tie.Need-returns-6

@@ -16,7 +16,8 @@ eight-bits-requires : tie.Need-eight-bits-requires
 eight-bits-requires c κs = search needs
 
 returns-2 : tie.Need-returns-2
-returns-2 c = let start = c .before .before .before in
+returns-2 c =
+    let start = c .before .before .before in
     let a = start .args in
     sym (matching-differs 8 (a .bit) (a .fallback) (a .byte) (a .p) (start .pre) (omega arith) (λ s. c .if2 .taken (c .before .eight-bits .ensures ∙ s ∙ omega arith)))
 
@@ -27,14 +28,16 @@ gone-on-requires : tie.Need-gone-on-requires
 gone-on-requires c κs = search needs
 
 returns-3 : tie.Need-returns-3
-returns-3 c = let start = c .before .before .before .before .before in
+returns-3 c =
+    let start = c .before .before .before .before .before in
     let a = start .args in
     c .gone-on .ensures
     ∙ sym
     (matching-next 8 (a .bit) (a .fallback) (a .byte) (a .p) (start .pre) (omega arith) (sym (c .before .before .before .eight-bits .ensures) ∙ c .before .before .if2 .left ∙ omega arith))
 
 returns-4 : tie.Need-returns-4
-returns-4 c = let start = c .before .before .before .before in
+returns-4 c =
+    let start = c .before .before .before .before in
     let a = start .args in
     sym (matching-last 7 (a .bit) (a .fallback) (a .byte) (a .p) (start .pre) (omega arith) (sym (c .before .before .eight-bits .ensures) ∙ c .before .if2 .left ∙ omega arith))
 

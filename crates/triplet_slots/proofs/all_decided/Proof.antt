@@ -15,7 +15,6 @@ use Rattle.line.specs.declared.Line.{Line}
 use Rattle.line.proofs.Steps.{after, with-entry, after-next, after-kept, after-all}
 use Rattle.triplet_slots.specs.Triplet.{decided, decidedIn}
 use Rattle.triplet_slots.proofs.Settled.{outcome, decided-by}
-use borrow.Author.Needs.{needs}
 use Rattle.triplet_slots.proofs.all_decided.Statement.{statement}
 use Rattle.triplet_slots.proofs.all_decided.Tie as tie
 
@@ -182,7 +181,8 @@ loop-again-8 c =
     let at = c .before .before .before in left at (ap (λ (k : Condition). decidedIn k (level-of at) (entry at)) (c .enum-told5 .given .1))
 
 returns : tie.Need-returns Inv-loop μ-loop
-returns c = let l = c .before .loop in
+returns c =
+    let l = c .before .loop in
     let e = c .before .before .entries in
     let a = c .before .before .before .args in
     let stop : l .i ≡ e .result = omega arith in

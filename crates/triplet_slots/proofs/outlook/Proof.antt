@@ -10,13 +10,12 @@ use borrow.Author.Needs.{needs}
 use borrow.Author.Tests.{not-false}
 use Rattle.probe.specs.declared.Condition.the-variants.{Searching}
 use Rattle.probe.specs.declared.Probe.{Probe}
-use Rattle.probe.specs.Probe.{sendsAt, deafNew}
+use Rattle.probe.specs.Probe.{reaches, sendsAt, deafNew}
 use Rattle.probe.proofs.Rests.{sendsAt-rests}
 use Rattle.line.specs.Line.{all, fitted, level}
 use Rattle.line.proofs.Front.{all-none, all-next, all-fails}
 use Rattle.triplet_slots.specs.Triplet.{settled}
 use Rattle.triplet_slots.proofs.Settled.{sendsAfter, settled-rests, settled-first, rests-after, first-sent, second-sent, second-level, all-passes}
-use borrow.Author.Needs.{needs}
 use Rattle.triplet_slots.proofs.outlook.Statement.{statement}
 use Rattle.triplet_slots.proofs.outlook.Tie as tie
 
@@ -56,10 +55,13 @@ sent : (c : tie.After-bit Inv-loop μ-loop) (b : Bool) →
     let v = speed-of at in
     c .bit .result ≡ b → (settled v p ≡ true) × (sendsAt v p ≡ b) × ((a : Bool) → sendsAfter v a p ≡ not b)
 sent c b e =
-    let v = speed-of (c .before .before .before .before .before .before .before .before .before .before .before) in
+    let at = c .before .before .before .before .before .before .before .before .before .before .before in
+    let v = speed-of at in
     let found = c .before .before .before .before .condition .given in
     let first = found .1 ∙ ap (Searching (found .0 .0)) (c .before .enum-told .given .1) in
-    let reached = sym (c .before .before .before .before .before .before .before .reached .ensures) ∙ not-false _ (c .before .before .before .before .before .before .if2 .left) in
+    let asked : c .before .before .before .before .before .before .before .reached .result ≡ reaches v (entry at) =
+    c .before .before .before .before .before .before .before .reached .ensures in
+    let reached = sym asked ∙ not-false _ (c .before .before .before .before .before .before .if2 .left) in
     let bit = sym (c .bit .ensures) ∙ e in
     (settled-first v _ _ first reached, first-sent v _ _ first reached ∙ bit, λ a. second-sent v _ _ first reached a ∙ ap not bit)
 
@@ -67,7 +69,8 @@ entries-requires : tie.Need-entries-requires Inv-loop μ-loop
 entries-requires c κs = search needs
 
 loop-holds : tie.Need-loop-holds Inv-loop μ-loop
-loop-holds c = let v = c .before .args .speed in
+loop-holds c =
+    let v = c .before .args .speed in
     let ps = c .before .args .t1 .probes in
     (omega arith, all-none (settled v) ps, sym (all-none (sendsAt v) ps), λ a. sym (all-none (sendsAfter v a) ps))
 
@@ -117,7 +120,8 @@ loop-less : tie.Need-loop-less Inv-loop μ-loop
 loop-less c = omega arith
 
 loop-again : tie.Need-loop-again Inv-loop μ-loop
-loop-again c = let at = c .before .before .before .before .before .before .before .before .before .before .before .before in
+loop-again c =
+    let at = c .before .before .before .before .before .before .before .before .before .before .before .before in
     let s = sent (c .before) true (c .if3 .taken) in
     (omega arith, one-more at (s .0), at .before .loop .inv .2 ∙ passed at (sendsAt (speed-of at)) (s .1), λ a. failed at (sendsAfter (speed-of at) a) (s .2 a))
 
@@ -125,7 +129,8 @@ loop-less-2 : tie.Need-loop-less-2 Inv-loop μ-loop
 loop-less-2 c = omega arith
 
 loop-again-2 : tie.Need-loop-again-2 Inv-loop μ-loop
-loop-again-2 c = let at = c .before .before .before .before .before .before .before .before .before .before .before .before in
+loop-again-2 c =
+    let at = c .before .before .before .before .before .before .before .before .before .before .before .before in
     let s = sent (c .before) false (c .if3 .left) in
     (omega arith, one-more at (s .0), failed at (sendsAt (speed-of at)) (s .1), λ a. at .before .loop .inv .3 a ∙ passed at (sendsAfter (speed-of at) a) (s .2 a))
 
@@ -133,7 +138,8 @@ loop-less-3 : tie.Need-loop-less-3 Inv-loop μ-loop
 loop-less-3 c = omega arith
 
 loop-again-3 : tie.Need-loop-again-3 Inv-loop μ-loop
-loop-again-3 c = let at = c .before .before .before in
+loop-again-3 c =
+    let at = c .before .before .before in
     let l = at .before .loop in
     let v = speed-of at in
     let resting = sym (c .before .rests .ensures) ∙ not-false _ (c .if1 .left) in (
@@ -145,7 +151,8 @@ loop-again-3 c = let at = c .before .before .before in
 
 returns-4 : tie.Need-returns-4 Inv-loop μ-loop
 unfolding level
-returns-4 c = let l = c .before .loop in
+returns-4 c =
+    let l = c .before .loop in
     let e = c .before .before .entries in
     let a = c .before .before .before .args in
     let v = a .speed in

@@ -21,14 +21,16 @@ slot-by-slot-requires : tie.Need-slot-by-slot-requires
 slot-by-slot-requires c κs = search needs
 
 returns : tie.Need-returns
-returns c = let a = c .before .before .before .before .args in
+returns c =
+    let a = c .before .before .before .before .args in
     let o = c .before .before .before .outlook .ensures (c .before .before .if1 .taken) in
     let bit : c .before .chosen .result ≡ writtenBit (a .speed) (a .direction) (a .line) =
-    c .before .chosen .ensures ∙ ap₂ (λ (x y : Bool). chosen x y (a .direction)) (o .1) (o .2) in (
+    c .before .chosen .ensures ∙ ap₂ (λ (x y : Bool). chosen x y (a .direction)) (o .1) (o .2) in
+    let went : c .all-decided .result ≡ onFitted (decided (c .before .chosen .result)) (a .line) = c .all-decided .ensures in (
       o .1,
       o .2,
       bit,
-      c .all-decided .ensures ∙ ap (λ (w : Bool). onFitted (decided w) (a .line)) bit ∙ sym (triplet-settled (a .speed) (a .line) (o .0) (a .direction)),
+      went ∙ ap (λ (w : Bool). onFitted (decided w) (a .line)) bit ∙ sym (triplet-settled (a .speed) (a .line) (o .0) (a .direction)),
     )
 
 returns-2 : tie.Need-returns-2

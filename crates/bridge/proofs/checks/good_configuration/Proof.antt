@@ -24,7 +24,8 @@ returns-4 c = sym (ap (goodParameter 0xD2) (c .match .keys4))
 
 returns-5 : tie.Need-returns-5
 unfolding goodParameter
-returns-5 c = let r = c .match .rest in
+returns-5 c =
+    let r = c .match .rest in
     simp (ne-eqb _ _ (r .0 .0 .0 .1), ne-eqb _ _ (r .0 .0 .1), ne-eqb _ _ (r .0 .1), ne-eqb _ _ (r .1))
 
 pub good-configuration-spec : {M : Type 1} → statement M

@@ -3,14 +3,13 @@ use mathlib.Core.Path.{_≡_, sym, ap, _∙_}
 use mathlib.Core.Bool.{true, false}
 use Prim.Native.Nat.{ℕ, _≤_, _-_}
 use native.Mathlib.Omega.{arith}
-use lib.ListN.{take}
+use lib.ListN.{getD, take}
 use borrow.Author.Needs.{needs}
 use borrow.Author.Tests.{not-true, not-false}
-use Rattle.probe.specs.Probe.{sendsAt}
+use Rattle.probe.specs.Probe.{deafNew, reaches, sendsAt}
 use Rattle.probe.proofs.Rests.{sendsAt-reached, sendsAt-sends}
 use Rattle.line.specs.Line.{all}
 use Rattle.line.proofs.Front.{all-none, all-next, all-fails}
-use borrow.Author.Needs.{needs}
 use Rattle.line.proofs.Line.all_send.Statement.{statement}
 use Rattle.line.proofs.Line.all_send.Tie as tie
 
@@ -48,20 +47,23 @@ reached-requires : tie.Need-reached-requires Inv-loop μ-loop
 reached-requires c κs = search needs
 
 returns : tie.Need-returns Inv-loop μ-loop
-returns c = let l = c .before .before .before .before .before .before .before .loop in
+returns c =
+    let l = c .before .before .before .before .before .before .before .loop in
     let e = c .before .before .before .before .before .before .before .before .entries in
     let a = c .before .before .before .before .before .before .before .before .before .args in
     let sent = sym (c .before .before .before .before .sends .ensures) ∙ not-true _ (c .before .before .before .if1 .taken) in
-    let reached = sym (c .before .reached .ensures) ∙ c .if2 .taken in
+    let p = getD (a .t1 .probes) (l .i) (deafNew 0) in
+    let reached : c .before .reached .result ≡ reaches (a .speed) p = c .before .reached .ensures in
     sym
     (ap (all (sendsAt (a .speed))) (sym (e .ensures .2))
-    ∙ all-fails (sendsAt (a .speed)) (a .t1 .probes) (e .result) (l .i) _ (omega arith) (omega arith) (sendsAt-reached (a .speed) _ true reached ∙ sent))
+    ∙ all-fails (sendsAt (a .speed)) (a .t1 .probes) (e .result) (l .i) _ (omega arith) (omega arith) (sendsAt-reached (a .speed) p true (sym reached ∙ c .if2 .taken) ∙ sent))
 
 loop-less : tie.Need-loop-less Inv-loop μ-loop
 loop-less c = omega arith
 
 loop-again : tie.Need-loop-again Inv-loop μ-loop
-loop-again c = let l = c .before .before .before .before .before .before .before .loop in
+loop-again c =
+    let l = c .before .before .before .before .before .before .before .loop in
     let a = c .before .before .before .before .before .before .before .before .before .args in
     let reached = sym (c .before .reached .ensures) ∙ c .if2 .left in
     (omega arith, all-next (sendsAt (a .speed)) (a .t1 .probes) (l .i) _ (omega arith) (l .inv .1) (sendsAt-reached (a .speed) _ false reached))
@@ -70,13 +72,15 @@ loop-less-2 : tie.Need-loop-less-2 Inv-loop μ-loop
 loop-less-2 c = omega arith
 
 loop-again-2 : tie.Need-loop-again-2 Inv-loop μ-loop
-loop-again-2 c = let l = c .before .before .before .before .loop in
+loop-again-2 c =
+    let l = c .before .before .before .before .loop in
     let a = c .before .before .before .before .before .before .args in
     let sent = sym (c .before .sends .ensures) ∙ not-false _ (c .if1 .left) in
     (omega arith, all-next (sendsAt (a .speed)) (a .t1 .probes) (l .i) _ (omega arith) (l .inv .1) (sendsAt-sends (a .speed) _ sent))
 
 returns-2 : tie.Need-returns-2 Inv-loop μ-loop
-returns-2 c = let l = c .before .loop in
+returns-2 c =
+    let l = c .before .loop in
     let e = c .before .before .entries in
     let a = c .before .before .before .args in
     let stop : l .i ≡ e .result = omega arith in

@@ -6,7 +6,6 @@ use borrow.Author.Needs.{needs}
 use Rattle.probe.specs.Probe.{reset}
 use Rattle.line.specs.Line.{afterReset}
 use Rattle.line.proofs.Steps.{after, after-next, after-all}
-use borrow.Author.Needs.{needs}
 use Rattle.line.proofs.Line.reset.Statement.{statement}
 use Rattle.line.proofs.Line.reset.Tie as tie
 
@@ -44,7 +43,8 @@ loop-less : tie.Need-loop-less Inv-loop μ-loop
 loop-less c = omega arith
 
 loop-again : tie.Need-loop-again Inv-loop μ-loop
-loop-again c = let l = c .before .before .before .loop in
+loop-again c =
+    let l = c .before .before .before .loop in
     let a = c .before .before .before .before .before .args in (
       omega arith,
       after-next (reset (a .speed)) (a .t1) (l .self) (l .i) _ (c .reset .result) (omega arith) (l .inv .1) (c .reset .ensures),
@@ -52,7 +52,8 @@ loop-again c = let l = c .before .before .before .loop in
 
 returns : tie.Need-returns Inv-loop μ-loop
 unfolding afterReset
-returns c = let l = c .before .loop in
+returns c =
+    let l = c .before .loop in
     let e = c .before .before .entries in
     let a = c .before .before .before .args in
     let stop : l .i ≡ e .result = omega arith in

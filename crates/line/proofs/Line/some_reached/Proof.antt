@@ -9,7 +9,6 @@ use Rattle.probe.specs.declared.Probe.{Probe}
 use Rattle.probe.specs.Probe.{reaches}
 use Rattle.line.specs.Line.{all}
 use Rattle.line.proofs.Front.{all-none, all-next, all-fails, any-all}
-use borrow.Author.Needs.{needs}
 use Rattle.line.proofs.Line.some_reached.Statement.{statement}
 use Rattle.line.proofs.Line.some_reached.Tie as tie
 
@@ -39,7 +38,8 @@ reached-requires : tie.Need-reached-requires Inv-loop μ-loop
 reached-requires c κs = search needs
 
 returns : tie.Need-returns Inv-loop μ-loop
-returns c = let l = c .before .before .before .before .loop in
+returns c =
+    let l = c .before .before .before .before .loop in
     let e = c .before .before .before .before .before .entries in
     let a = c .before .before .before .before .before .before .args in
     let reached = sym (c .before .reached .ensures) ∙ c .if1 .taken in
@@ -56,13 +56,15 @@ loop-less : tie.Need-loop-less Inv-loop μ-loop
 loop-less c = omega arith
 
 loop-again : tie.Need-loop-again Inv-loop μ-loop
-loop-again c = let l = c .before .before .before .before .loop in
+loop-again c =
+    let l = c .before .before .before .before .loop in
     let a = c .before .before .before .before .before .before .args in
     let reached = sym (c .before .reached .ensures) ∙ c .if1 .left in
     (omega arith, all-next (passed (a .speed)) (a .t1 .probes) (l .i) _ (omega arith) (l .inv .1) (ap not reached))
 
 returns-2 : tie.Need-returns-2 Inv-loop μ-loop
-returns-2 c = let l = c .before .loop in
+returns-2 c =
+    let l = c .before .loop in
     let e = c .before .before .entries in
     let a = c .before .before .before .args in
     let stop : l .i ≡ e .result = omega arith in

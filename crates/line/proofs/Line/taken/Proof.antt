@@ -4,12 +4,12 @@ use mathlib.Core.Path.{_≡_, refl, sym, _∙_, ap}
 use mathlib.Core.Bool.{true, false}
 use Prim.Native.Nat.{ℕ, _≤_, _-_}
 use native.Mathlib.Omega.{arith}
+use lib.ListN.{getD}
 use borrow.Author.Needs.{needs}
 use borrow.Author.Tests.{not-false}
-use Rattle.probe.specs.Probe.{tookAt}
+use Rattle.probe.specs.Probe.{deafNew, reaches, took, tookAt}
 use Rattle.probe.proofs.Rests.{tookAt-rests, tookAt-reached}
 use Rattle.line.proofs.Steps.{after, after-next, after-kept, after-all}
-use borrow.Author.Needs.{needs}
 use Rattle.line.proofs.Line.taken.Statement.{statement}
 use Rattle.line.proofs.Line.taken.Tie as tie
 
@@ -53,19 +53,23 @@ loop-less : tie.Need-loop-less Inv-loop μ-loop
 loop-less c = omega arith
 
 loop-again : tie.Need-loop-again Inv-loop μ-loop
-loop-again c = let l = c .before .before .before .before .before .before .before .loop in
+loop-again c =
+    let l = c .before .before .before .before .before .before .before .loop in
     let a = c .before .before .before .before .before .before .before .before .before .args in
-    let reached = sym (c .before .before .reached .ensures) ∙ c .before .if2 .taken in (
+    let p = getD (l .self .probes) (l .i) (deafNew 0) in
+    let reached : c .before .before .reached .result ≡ reaches (a .speed) p = c .before .before .reached .ensures in
+    let went : c .took .result ≡ took (a .level) p = c .took .ensures in (
       omega arith,
       after-next (tookAt (a .speed) (a .level)) (a .t1) (l .self) (l .i) _ (c .took .result) (omega arith) (l .inv .1)
-          (c .took .ensures ∙ sym (tookAt-reached (a .speed) (a .level) _ true reached)),
+          (went ∙ sym (tookAt-reached (a .speed) (a .level) p true (sym reached ∙ c .before .if2 .taken))),
     )
 
 loop-less-2 : tie.Need-loop-less-2 Inv-loop μ-loop
 loop-less-2 c = omega arith
 
 loop-again-2 : tie.Need-loop-again-2 Inv-loop μ-loop
-loop-again-2 c = let l = c .before .before .before .before .before .before .loop in
+loop-again-2 c =
+    let l = c .before .before .before .before .before .before .loop in
     let a = c .before .before .before .before .before .before .before .before .args in
     let reached = sym (c .before .reached .ensures) ∙ c .if2 .left in (
       omega arith,
@@ -77,7 +81,8 @@ loop-less-3 : tie.Need-loop-less-3 Inv-loop μ-loop
 loop-less-3 c = omega arith
 
 loop-again-3 : tie.Need-loop-again-3 Inv-loop μ-loop
-loop-again-3 c = let l = c .before .before .before .before .loop in
+loop-again-3 c =
+    let l = c .before .before .before .before .loop in
     let a = c .before .before .before .before .before .before .args in
     let resting = sym (c .before .rests .ensures) ∙ not-false _ (c .if1 .left) in (
       omega arith,
@@ -86,7 +91,8 @@ loop-again-3 c = let l = c .before .before .before .before .loop in
     )
 
 returns : tie.Need-returns Inv-loop μ-loop
-returns c = let l = c .before .loop in
+returns c =
+    let l = c .before .loop in
     let e = c .before .before .entries in
     let a = c .before .before .before .args in
     let stop : l .i ≡ e .result = omega arith in

@@ -21,12 +21,14 @@ in-condition-requires c κs = search needs
 
 returns : tie.Need-returns
 unfolding tookMatching
-returns c = let k = c .before .before .before .before .args .bit in
+returns c =
+    let k = c .before .before .before .before .args .bit in
     simp (sym (c .before .before .before .agrees .ensures) ∙ c .before .before .if1 .taken, le-leb 63 k (omega arith)) (c .with-mark .ensures)
 
 returns-2 : tie.Need-returns-2
 unfolding tookMatching
-returns-2 c = let k = c .before .before .before .before .args .bit in
+returns-2 c =
+    let k = c .before .before .before .before .args .bit in
     simp (sym (c .before .before .before .agrees .ensures) ∙ c .before .before .if1 .taken, lt-leb 63 k (omega arith)) (c .in-condition .ensures)
 
 returns-3 : tie.Need-returns-3
