@@ -8,6 +8,7 @@ use native.Mathlib.Omega.{arith}
 use lib.ListN.{getD, take}
 use borrow.Author.Needs.{needs}
 use borrow.Author.Tests.{not-false}
+use Rattle.identity.specs.Identity.{bitOf}
 use Rattle.probe.specs.declared.Condition.the-variants.{Searching}
 use Rattle.probe.specs.declared.Probe.{Probe}
 use Rattle.probe.specs.Probe.{reaches, sendsAt, deafNew}
@@ -62,7 +63,8 @@ sent c b e =
     let asked : c .before .before .before .before .before .before .before .reached .result ≡ reaches v (entry at) =
     c .before .before .before .before .before .before .before .reached .ensures in
     let reached = sym asked ∙ not-false _ (c .before .before .before .before .before .before .if2 .left) in
-    let bit = sym (c .bit .ensures) ∙ e in
+    let own : c .bit .result ≡ bitOf (entry at .id) (found .0 .0) = c .bit .ensures in
+    let bit = sym own ∙ e in
     (settled-first v _ _ first reached, first-sent v _ _ first reached ∙ bit, λ a. second-sent v _ _ first reached a ∙ ap not bit)
 
 entries-requires : tie.Need-entries-requires Inv-loop μ-loop
