@@ -1,2 +1,3 @@
 pub mod Bridge
+pub mod Eight
 pub mod Reached

@@ -191,8 +191,7 @@ impl Bridge {
             Pending::Nothing => self,
             Pending::Reset => self.finished_reset(),
             Pending::SingleBit { bit } => self.finished_bit(bit),
-            Pending::WriteByte { byte } => self.finished_byte(byte, false),
-            Pending::ReadByte => self.finished_byte(0xFF, true),
+            Pending::WriteByte { byte: _ } | Pending::ReadByte => self.finished_byte(),
             Pending::Triplet { direction } => self.finished_triplet(direction),
         }
     }

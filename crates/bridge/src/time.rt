@@ -4,18 +4,40 @@ use crate::Pending;
 use crate::Registers;
 use crate::StatusBits;
 ghost use mathlib.Core.Path.{_≡_};
-ghost use mathlib.Core.Bool.{cond};
-ghost use Rattle.line.specs.Line.{levels};
-ghost use Rattle.bridge.specs.Bridge.{speedOf, finished as finishedWith, eightSlots, finishedReset, finishedBit, finishedTriplet};
-
-// The read-data byte after eight slots of these levels.
-fn read_data(reads: bool, levels: u8, before: u8) -> u8
-    ensures { λ r. ⌜ r ≡ cond reads levels before ⌝ }
-{
-    if reads { levels } else { before }
-}
+ghost use Rattle.bridge.specs.Bridge.{finished as finishedWith, finishedReset, finishedBit, finishedTriplet};
+ghost use Rattle.bridge.specs.Eight.{byteOf, readDataOf, finishedByte};
 
 impl Registers {
+    // What eight slots carry: the byte to write, or for Read Byte ones.
+    fn byte(self) -> u8
+        ensures { λ r. ⌜ r ≡ byteOf (self .pending) ⌝ }
+    {
+        let pending = self.pending;
+        match pending {
+            Pending::Nothing => 0xFF,
+            Pending::Reset => 0xFF,
+            Pending::SingleBit { bit: _ } => 0xFF,
+            Pending::WriteByte { byte } => byte,
+            Pending::ReadByte => 0xFF,
+            Pending::Triplet { direction: _ } => 0xFF,
+        }
+    }
+
+    // The read-data byte after eight slots of these levels: theirs, if the command reads.
+    fn read_data(self, levels: u8) -> u8
+        ensures { λ r. ⌜ r ≡ readDataOf (self .pending) levels (self .readout) ⌝ }
+    {
+        let pending = self.pending;
+        match pending {
+            Pending::Nothing => self.readout,
+            Pending::Reset => self.readout,
+            Pending::SingleBit { bit: _ } => self.readout,
+            Pending::WriteByte { byte: _ } => self.readout,
+            Pending::ReadByte => levels,
+            Pending::Triplet { direction: _ } => self.readout,
+        }
+    }
+
     // The command is over: nothing is pending.
     fn finished(self, status: StatusBits, readout: u8) -> Registers
         ensures { λ r. ⌜ r ≡ finishedWith status readout self ⌝ }
@@ -61,16 +83,16 @@ impl Bridge {
         }
     }
 
-    // Eight slots. Write Byte and Read Byte share them, so that the line is copied less.
-    pub(crate) fn finished_byte(self, byte: u8, reads: bool) -> Bridge
-        ensures { λ r. ⌜ r ≡ eightSlots byte (cond reads (levels (speedOf (self .registers)) 8 byte (self .line)) (self .registers .readout)) self ⌝ }
+    // Write Byte and Read Byte share their eight slots, so that the line is copied less.
+    pub(crate) fn finished_byte(self) -> Bridge
+        ensures { λ r. ⌜ r ≡ finishedByte (self .registers .pending) self ⌝ }
     {
         let registers = self.registers;
         let line = self.line;
-        let eight = byte_slots::slots(line, registers.speed(), byte);
+        let eight = byte_slots::slots(line, registers.speed(), registers.byte());
         let status = registers.status;
         let after = eight.line;
-        let readout = read_data(reads, eight.byte, registers.readout);
+        let readout = registers.read_data(eight.byte);
         Bridge {
             registers: registers.finished(status, readout),
             line: after,

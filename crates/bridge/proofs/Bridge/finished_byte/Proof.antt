@@ -7,6 +7,9 @@ use Rattle.bridge.proofs.Bridge.finished_byte.Tie as tie
 speed-requires : tie.Need-speed-requires
 speed-requires c κs = search needs
 
+byte-requires : tie.Need-byte-requires
+byte-requires c κs = search needs
+
 slots-requires : tie.Need-slots-requires
 slots-requires c κs = search needs
 
@@ -17,8 +20,15 @@ finished-requires : tie.Need-finished-requires
 finished-requires c κs = search needs
 
 returns : tie.Need-returns
-returns c = let s = c .before .before .before .before .slots .ensures in simp (c .finished .ensures, c .before .read-data .ensures, s .0, s .1, c .before .before .before .before .before .speed .ensures) refl
+returns c = let s = c .before .before .before .before .slots .ensures in simp (c .finished .ensures, c .before .read-data .ensures, s .0, s .1, c .before .before .before .before .before .byte .ensures, c .before .before .before .before .before .before .speed .ensures) refl
 
 pub finished-byte-spec : {M : Type 1} → statement M
 finished-byte-spec =
-    tie.close (tie.spec speed-requires slots-requires read-data-requires finished-requires returns)
+    tie.close
+    (tie.spec
+    speed-requires
+    byte-requires
+    slots-requires
+    read-data-requires
+    finished-requires
+    returns)

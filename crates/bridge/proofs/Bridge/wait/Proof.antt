@@ -1,8 +1,27 @@
 -- `Bridge::wait` meets its contract, command by command.
+use mathlib.Core.Path.{_≡_, refl, _∙_}
+use mathlib.Core.Logic.{_⊎_, ⊎-elim}
+use native.Mathlib.Omega.{arith}
+use denote.Enum.Declared.{tagOf}
+use Rattle.bridge.specs.declared.Pending.{Pending}
+use Rattle.bridge.specs.declared.Pending.the-variants.{Nothing, Reset, SingleBit, WriteByte, ReadByte, Triplet}
+use Rattle.bridge.specs.declared.Bridge.{Bridge}
 use Rattle.bridge.specs.Bridge.{finishedOf, finishedWrite, finishedRead, afterTime}
+use Rattle.bridge.specs.Eight.{finishedByte}
+use Rattle.bridge.proofs.Pending.{the-type}
 use borrow.Author.Needs.{needs}
 use Rattle.bridge.proofs.Bridge.wait.Statement.{statement}
 use Rattle.bridge.proofs.Bridge.wait.Tie as tie
+
+-- Write Byte and Read Byte are told by their places among the variants
+by-byte : (q : Pending) (b : Bridge) → (tagOf the-type q ≡ 3) ⊎ (tagOf the-type q ≡ 4) → finishedByte q b ≡ finishedOf q b
+unfolding finishedOf finishedWrite finishedRead
+by-byte Nothing b k = absurd (⊎-elim (λ e. omega arith) (λ e. omega arith) k)
+by-byte Reset b k = absurd (⊎-elim (λ e. omega arith) (λ e. omega arith) k)
+by-byte (SingleBit w) b k = absurd (⊎-elim (λ e. omega arith) (λ e. omega arith) k)
+by-byte (WriteByte x) b k = refl
+by-byte ReadByte b k = refl
+by-byte (Triplet d) b k = absurd (⊎-elim (λ e. omega arith) (λ e. omega arith) k)
 
 enum-told : tie.Need-enum-told
 enum-told c = search needs
@@ -19,20 +38,11 @@ enum-known-pending c = search needs
 finished-bit-requires : tie.Need-finished-bit-requires
 finished-bit-requires c κs = search needs
 
-enum-known-pending-2 : tie.Need-enum-known-pending-2
-enum-known-pending-2 c = search needs
-
 finished-byte-requires : tie.Need-finished-byte-requires
 finished-byte-requires c κs = search needs
 
-enum-told-3 : tie.Need-enum-told-3
-enum-told-3 c = search needs
-
-finished-byte-requires-2 : tie.Need-finished-byte-requires-2
-finished-byte-requires-2 c κs = search needs
-
-enum-known-pending-3 : tie.Need-enum-known-pending-3
-enum-known-pending-3 c = search needs
+enum-known-pending-2 : tie.Need-enum-known-pending-2
+enum-known-pending-2 c = search needs
 
 finished-triplet-requires : tie.Need-finished-triplet-requires
 finished-triplet-requires c κs = search needs
@@ -50,16 +60,12 @@ unfolding afterTime finishedOf
 returns-3 c = simp (c .before .before .pending .given .1) (c .finished-bit .ensures)
 
 returns-4 : tie.Need-returns-4
-unfolding afterTime finishedOf finishedWrite
-returns-4 c = simp (c .before .before .pending2 .given .1) (c .finished-byte .ensures)
+unfolding afterTime
+returns-4 c = c .finished-byte .ensures ∙ by-byte (c .before .before .before .args .self .registers .pending) (c .before .before .before .args .self) (c .before .match .keys4)
 
 returns-5 : tie.Need-returns-5
-unfolding afterTime finishedOf finishedRead
-returns-5 c = simp (c .before .enum-told3 .given .1) (c .finished-byte2 .ensures)
-
-returns-6 : tie.Need-returns-6
 unfolding afterTime finishedOf
-returns-6 c = simp (c .before .before .pending3 .given .1) (c .finished-triplet .ensures)
+returns-5 c = simp (c .before .before .pending2 .given .1) (c .finished-triplet .ensures)
 
 pub wait-spec : {M : Type 1} → statement M
 wait-spec =
@@ -70,15 +76,11 @@ wait-spec =
     finished-reset-requires
     enum-known-pending
     finished-bit-requires
-    enum-known-pending-2
     finished-byte-requires
-    enum-told-3
-    finished-byte-requires-2
-    enum-known-pending-3
+    enum-known-pending-2
     finished-triplet-requires
     returns
     returns-2
     returns-3
     returns-4
-    returns-5
-    returns-6)
+    returns-5)
