@@ -82,10 +82,10 @@ fn weighed(bit: bool, weight: u8) -> u8
 
 impl Registers {
     // 1WS: the speed of slots and resets.
-    pub(crate) fn speed(self) -> u8
+    pub(crate) fn speed(self) -> u32
         ensures { λ r. ⌜ r ≡ speedOf self ⌝ }
     {
-        self.configuration / 8 % 2
+        (self.configuration / 8 % 2) as u32
     }
 
     fn status(self) -> u8

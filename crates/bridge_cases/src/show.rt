@@ -5,7 +5,6 @@ use line::Line;
 use probe::Condition;
 use probe::OVERDRIVE;
 use probe::Probe;
-use probe::STANDARD;
 use probe::Slot;
 
 fn slot(s: Slot) {
@@ -40,9 +39,9 @@ fn condition(c: Condition) {
     }
 }
 
-fn falls_back(c: Condition) -> bool {
+fn fallback(c: Condition) -> bool {
     match c {
-        Condition::Matching { bit: _, fallback } => fallback == STANDARD,
+        Condition::Matching { bit: _, fallback } => fallback,
         _ => false,
     }
 }
@@ -51,13 +50,13 @@ fn falls_back(c: Condition) -> bool {
 fn by_69(p: Probe) {
     let c = p.condition;
     if p.speed == OVERDRIVE {
-        if falls_back(c) {
+        if fallback(c) {
             say::text(b" by 69");
         }
     }
 }
 
-fn speed(s: u8) {
+fn speed(s: u32) {
     if s == OVERDRIVE {
         say::text(b", overdrive");
     }

@@ -17,7 +17,7 @@ use Rattle.probe.specs.declared.Condition.{Condition}
 use Rattle.probe.specs.declared.Condition.the-variants.{Deaf, Taking, Sending, Matching, Searching, Selected}
 use Rattle.probe.specs.declared.Probe.{Probe}
 use Rattle.probe.specs.Probe.{reaches, sends, sendsIn, sendsAt, took, tookIn, tookAt, tookCode, tookSending, tookMatching, agrees, digit}
-use Rattle.probe.specs.Probe.{rests, restsIn, inCondition, withMark, atSpeed}
+use Rattle.probe.specs.Probe.{rests, restsIn, inCondition, withMark, differed}
 use Rattle.probe.proofs.Rests.{took-rests, sends-rests, tookAt-rests, sendsAt-rests, tookAt-reached, sendsAt-reached}
 use Rattle.line.specs.declared.Line.{Line}
 use Rattle.line.specs.Line.{all, fitted, onFitted, level, levels, slot, slots}
@@ -76,8 +76,8 @@ module _ (v : ℕ) where
   abbrev Later : ℕ → Probe → ℕ → Type 0
   Later n q m = (foreseen v (suc n) q ≡ true) × (m / 2 ≡ ahead (suc n) q)
 
-  later-match : (n k w : ℕ) (s t : Bool) (p : Probe) → reaches v p ≡ true
-      → Later n (cond s (cond t (withMark p true Selected) (inCondition p (Matching (k + 1) w))) (inCondition (atSpeed w p) Deaf)) (2 ^ suc (suc n) - 1)
+  later-match : (n k : ℕ) (w s t : Bool) (p : Probe) → reaches v p ≡ true
+      → Later n (cond s (cond t (withMark p true Selected) (inCondition p (Matching (k + 1) w))) (differed w p)) (2 ^ suc (suc n) - 1)
   unfolding foreseen foreseenIn ahead aheadIn reaches
   later-match n k w true true p r = (refl, ones-half (suc n))
   later-match n k w true false p r = (r, ones-half (suc n))

@@ -1,8 +1,8 @@
 -- A probe that takes several slots in one go.
 --   tookBits-rests                          one that rests is not changed
 --   sending-next, sending-last              one that sends its ID goes on, or is selected after the last bit
---   matching-next, -last, -differs          one that matches its ID goes on if all bits agree, is selected after the last, or is deaf at
---                                           the speed that it falls back to
+--   matching-next, -last, -differs          one that matches its ID goes on if all bits agree, is selected after the last, or has
+--                                           differed
 --   taking-whole                            a code of which no bit has come yet is the bits
 use mathlib.Core.Path.{_≡_, refl, sym, ap, ap₂, _∙_}
 use mathlib.Core.Bool.{Bool, true, false, cond, not}
@@ -14,7 +14,7 @@ use Rattle.identity.specs.Identity.{bitOf}
 use Rattle.probe.specs.declared.Condition.{Condition}
 use Rattle.probe.specs.declared.Condition.the-variants.{Deaf, Taking, Sending, Matching, Selected}
 use Rattle.probe.specs.declared.Probe.{Probe}
-use Rattle.probe.specs.Probe.{took, tookIn, tookCode, tookSending, tookMatching, agrees, obeyed, digit, rests, restsIn, inCondition, withMark, atSpeed}
+use Rattle.probe.specs.Probe.{took, tookIn, tookCode, tookSending, tookMatching, agrees, obeyed, digit, rests, restsIn, inCondition, withMark, differed}
 use Rattle.probe.proofs.Rests.{took-rests}
 use Rattle.byte_slots.specs.Foresight.{tookBits}
 use Rattle.byte_slots.proofs.Digits.{digit-odd, low-suc, half-of, doubled, moved-weight, moved-down}
@@ -54,12 +54,12 @@ sending-last (suc n) k x p e h =
 -- ---- matching
 
 -- what one slot makes of a probe that matches its ID, by whether the level agrees
-matching-one : (k v : ℕ) (s : Bool) (b : Bool) (p : Probe) → p .condition ≡ Matching k v → agrees b (p .id) k ≡ s
-    → took b p ≡ cond s (cond (leb 63 k) (withMark p true Selected) (inCondition p (Matching (k + 1) v))) (inCondition (atSpeed v p) Deaf)
+matching-one : (k : ℕ) (f : Bool) (s : Bool) (b : Bool) (p : Probe) → p .condition ≡ Matching k f → agrees b (p .id) k ≡ s
+    → took b p ≡ cond s (cond (leb 63 k) (withMark p true Selected) (inCondition p (Matching (k + 1) f))) (differed f p)
 unfolding took tookIn tookMatching
-matching-one k v s b p e h =
+matching-one k f s b p e h =
     ap (λ (c : Condition). tookIn c b p) e
-    ∙ ap (λ (t : Bool). cond t (cond (leb 63 k) (withMark p true Selected) (inCondition p (Matching (k + 1) v))) (inCondition (atSpeed v p) Deaf)) h
+    ∙ ap (λ (t : Bool). cond t (cond (leb 63 k) (withMark p true Selected) (inCondition p (Matching (k + 1) f))) (differed f p)) h
 
 itself : (b : Bool) → cond b b (not b) ≡ true
 itself true = refl
@@ -80,17 +80,17 @@ disagree i k x h = go (eqb (i / 2 ^ k % 2) 1) (eqb (x % 2) 1) refl refl
     go false true e f = refl
     go false false e f = absurd (h (omega (arith, eqb-false (i / 2 ^ k % 2) 1 e, eqb-false (x % 2) 1 f)))
 
-matching-on : (k v x : ℕ) (p : Probe) → p .condition ≡ Matching k v → k < 63 → p .id / 2 ^ k % 2 ≡ x % 2
-    → took (eqb (x % 2) 1) p ≡ inCondition p (Matching (k + 1) v)
-matching-on k v x p e h same =
-    matching-one k v true (eqb (x % 2) 1) p e (agree (p .id) k x same)
-    ∙ ap (λ (t : Bool). cond t (withMark p true Selected) (inCondition p (Matching (k + 1) v))) (lt-leb 63 k h)
+matching-on : (k : ℕ) (f : Bool) (x : ℕ) (p : Probe) → p .condition ≡ Matching k f → k < 63 → p .id / 2 ^ k % 2 ≡ x % 2
+    → took (eqb (x % 2) 1) p ≡ inCondition p (Matching (k + 1) f)
+matching-on k f x p e h same =
+    matching-one k f true (eqb (x % 2) 1) p e (agree (p .id) k x same)
+    ∙ ap (λ (t : Bool). cond t (withMark p true Selected) (inCondition p (Matching (k + 1) f))) (lt-leb 63 k h)
 
-matching-over : (k v x : ℕ) (p : Probe) → p .condition ≡ Matching k v → 63 ≤ k → p .id / 2 ^ k % 2 ≡ x % 2
+matching-over : (k : ℕ) (f : Bool) (x : ℕ) (p : Probe) → p .condition ≡ Matching k f → 63 ≤ k → p .id / 2 ^ k % 2 ≡ x % 2
     → took (eqb (x % 2) 1) p ≡ withMark p true Selected
-matching-over k v x p e h same =
-    matching-one k v true (eqb (x % 2) 1) p e (agree (p .id) k x same)
-    ∙ ap (λ (t : Bool). cond t (withMark p true Selected) (inCondition p (Matching (k + 1) v))) (le-leb 63 k h)
+matching-over k f x p e h same =
+    matching-one k f true (eqb (x % 2) 1) p e (agree (p .id) k x same)
+    ∙ ap (λ (t : Bool). cond t (withMark p true Selected) (inCondition p (Matching (k + 1) f))) (le-leb 63 k h)
 
 -- the low n bits from bit k up are those of x
 abbrev Same : ℕ → ℕ → ℕ → ℕ → Type 0
@@ -108,45 +108,45 @@ same-both n i k x e f =
     let rest = ap (λ (m : ℕ). m % 2 ^ n) (half-of i k) ∙ f in
     omega (arith, e, rest, low-suc n (i / 2 ^ k), low-suc n x)
 
-pub matching-next : (n k v x : ℕ) (p : Probe) → p .condition ≡ Matching k v → k + n < 64 → Same n (p .id) k x
-    → tookBits n x p ≡ inCondition p (Matching (k + n) v)
+pub matching-next : (n k : ℕ) (f : Bool) (x : ℕ) (p : Probe) → p .condition ≡ Matching k f → k + n < 64 → Same n (p .id) k x
+    → tookBits n x p ≡ inCondition p (Matching (k + n) f)
 unfolding tookBits
-matching-next zero k v x p e h s = ap (inCondition p) (e ∙ ap (λ (j : ℕ). Matching j v) (omega arith))
-matching-next (suc n) k v x p e h s =
-    ap (tookBits n (x / 2)) (matching-on k v x p e (omega arith) (same-low n (p .id) k x s))
-    ∙ matching-next n (k + 1) v (x / 2) (inCondition p (Matching (k + 1) v)) refl (omega arith) (same-rest n (p .id) k x s)
-    ∙ ap (λ (j : ℕ). inCondition p (Matching j v)) (omega arith)
+matching-next zero k f x p e h s = ap (inCondition p) (e ∙ ap (λ (j : ℕ). Matching j f) (omega arith))
+matching-next (suc n) k f x p e h s =
+    ap (tookBits n (x / 2)) (matching-on k f x p e (omega arith) (same-low n (p .id) k x s))
+    ∙ matching-next n (k + 1) f (x / 2) (inCondition p (Matching (k + 1) f)) refl (omega arith) (same-rest n (p .id) k x s)
+    ∙ ap (λ (j : ℕ). inCondition p (Matching j f)) (omega arith)
 
-pub matching-last : (n k v x : ℕ) (p : Probe) → p .condition ≡ Matching k v → k + suc n ≡ 64 → Same (suc n) (p .id) k x
+pub matching-last : (n k : ℕ) (f : Bool) (x : ℕ) (p : Probe) → p .condition ≡ Matching k f → k + suc n ≡ 64 → Same (suc n) (p .id) k x
     → tookBits (suc n) x p ≡ withMark p true Selected
 unfolding tookBits
-matching-last zero k v x p e h s = matching-over k v x p e (omega arith) (same-low 0 (p .id) k x s)
-matching-last (suc n) k v x p e h s =
-    ap (tookBits (suc n) (x / 2)) (matching-on k v x p e (omega arith) (same-low (suc n) (p .id) k x s))
-    ∙ matching-last n (k + 1) v (x / 2) (inCondition p (Matching (k + 1) v)) refl (omega arith) (same-rest (suc n) (p .id) k x s)
+matching-last zero k f x p e h s = matching-over k f x p e (omega arith) (same-low 0 (p .id) k x s)
+matching-last (suc n) k f x p e h s =
+    ap (tookBits (suc n) (x / 2)) (matching-on k f x p e (omega arith) (same-low (suc n) (p .id) k x s))
+    ∙ matching-last n (k + 1) f (x / 2) (inCondition p (Matching (k + 1) f)) refl (omega arith) (same-rest (suc n) (p .id) k x s)
 
 -- a level that differs makes it deaf, and the slots that are left change nothing
-matching-off : (n k v x : ℕ) (p : Probe) → p .condition ≡ Matching k v → (p .id / 2 ^ k % 2 ≡ x % 2 → ⊥) → tookBits (suc n) x p ≡ inCondition (atSpeed v p) Deaf
+matching-off : (n k : ℕ) (f : Bool) (x : ℕ) (p : Probe) → p .condition ≡ Matching k f → (p .id / 2 ^ k % 2 ≡ x % 2 → ⊥) → tookBits (suc n) x p ≡ differed f p
 unfolding tookBits rests restsIn
-matching-off n k v x p e other =
-    ap (tookBits n (x / 2)) (matching-one k v false (eqb (x % 2) 1) p e (disagree (p .id) k x other))
-    ∙ tookBits-rests n (x / 2) (inCondition (atSpeed v p) Deaf) refl
+matching-off n k f x p e other =
+    ap (tookBits n (x / 2)) (matching-one k f false (eqb (x % 2) 1) p e (disagree (p .id) k x other))
+    ∙ tookBits-rests n (x / 2) (differed f p) refl
 
-pub matching-differs : (n k v x : ℕ) (p : Probe) → p .condition ≡ Matching k v → k + n ≤ 64 → (Same n (p .id) k x → ⊥)
-    → tookBits n x p ≡ inCondition (atSpeed v p) Deaf
+pub matching-differs : (n k : ℕ) (f : Bool) (x : ℕ) (p : Probe) → p .condition ≡ Matching k f → k + n ≤ 64 → (Same n (p .id) k x → ⊥)
+    → tookBits n x p ≡ differed f p
 unfolding tookBits
-matching-differs zero k v x p e h s = absurd (s (omega arith))
-matching-differs (suc zero) k v x p e h s = matching-off 0 k v x p e (λ same. s (same-both 0 (p .id) k x same (omega arith)))
-matching-differs (suc (suc n)) k v x p e h s =
-    go (eqb (p .id / 2 ^ k % 2) (x % 2)) refl (matching-differs (suc n) (k + 1) v (x / 2) (inCondition p (Matching (k + 1) v)) refl (omega arith))
+matching-differs zero k f x p e h s = absurd (s (omega arith))
+matching-differs (suc zero) k f x p e h s = matching-off 0 k f x p e (λ same. s (same-both 0 (p .id) k x same (omega arith)))
+matching-differs (suc (suc n)) k f x p e h s =
+    go (eqb (p .id / 2 ^ k % 2) (x % 2)) refl (matching-differs (suc n) (k + 1) f (x / 2) (inCondition p (Matching (k + 1) f)) refl (omega arith))
   where
     go : (t : Bool) → eqb (p .id / 2 ^ k % 2) (x % 2) ≡ t
-        → ((Same (suc n) (p .id) (k + 1) (x / 2) → ⊥) → tookBits (suc n) (x / 2) (inCondition p (Matching (k + 1) v)) ≡ inCondition (atSpeed v p) Deaf)
-        → tookBits (suc (suc n)) x p ≡ inCondition (atSpeed v p) Deaf
-    go false f rest = matching-off (suc n) k v x p e (eqb-false (p .id / 2 ^ k % 2) (x % 2) f)
-    go true f rest =
-        let same = eqb-true (p .id / 2 ^ k % 2) (x % 2) f in
-        ap (tookBits (suc n) (x / 2)) (matching-on k v x p e (omega (arith, h)) same) ∙ rest (λ r. s (same-both (suc n) (p .id) k x same r))
+        → ((Same (suc n) (p .id) (k + 1) (x / 2) → ⊥) → tookBits (suc n) (x / 2) (inCondition p (Matching (k + 1) f)) ≡ differed f p)
+        → tookBits (suc (suc n)) x p ≡ differed f p
+    go false g rest = matching-off (suc n) k f x p e (eqb-false (p .id / 2 ^ k % 2) (x % 2) g)
+    go true g rest =
+        let same = eqb-true (p .id / 2 ^ k % 2) (x % 2) g in
+        ap (tookBits (suc n) (x / 2)) (matching-on k f x p e (omega (arith, h)) same) ∙ rest (λ r. s (same-both (suc n) (p .id) k x same r))
 
 -- ---- taking a code
 

@@ -19,7 +19,7 @@ unfoldable pub foreseenIn : Bool → ℕ → Condition → Bool
 foreseenIn r n Deaf = true
 foreseenIn r n (Taking k c) = cond (leb (k + n) 8) r false
 foreseenIn r n (Sending k) = cond (leb (k + n) 64) r false
-foreseenIn r n (Matching k v) = r
+foreseenIn r n (Matching k f) = r
 foreseenIn r n (Searching k s) = false
 foreseenIn r n Selected = true
 
@@ -31,7 +31,7 @@ unfoldable pub aheadIn : ℕ → ℕ → Condition → ℕ
 aheadIn n i Deaf = 2 ^ n - 1
 aheadIn n i (Taking k c) = 2 ^ n - 1
 aheadIn n i (Sending k) = i / 2 ^ k % 2 ^ n
-aheadIn n i (Matching k v) = 2 ^ n - 1
+aheadIn n i (Matching k f) = 2 ^ n - 1
 aheadIn n i (Searching k s) = 2 ^ n - 1
 aheadIn n i Selected = 2 ^ n - 1
 

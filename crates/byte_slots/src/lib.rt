@@ -10,8 +10,10 @@ use probe::Condition;
 use probe::MATCH_ROM;
 use probe::Probe;
 use probe::READ_ROM;
+use probe::RESUME;
 use probe::SEARCH_ROM;
 use probe::SEARCHING;
+use probe::SKIP_ROM;
 ghost use mathlib.Core.Path.{_≡_};
 ghost use Prim.Native.Nat.{_+_, _*_, _/_, _%_, _^_};
 ghost use mathlib.Core.Bool.{true, false};
@@ -26,11 +28,17 @@ pub struct Levels {
     pub line: Line,
 }
 
+// What a probe is in once it has taken Match ROM.
+const MATCHING: Condition = Condition::Matching {
+    bit: 0,
+    fallback: false,
+};
+
 // The number of a bit from which eight are left.
 const LAST_EIGHT: u8 = 56;
 
 // The next eight slots at this speed all reach the probe, and what it sends in them does not depend on their levels; or it rests.
-fn foreseen(p: Probe, speed: u8) -> bool
+fn foreseen(p: Probe, speed: u32) -> bool
     ensures { λ r. ⌜ r ≡ foreseen speed 8 p ⌝ }
 {
     let condition = p.condition;
@@ -96,19 +104,6 @@ fn begun(p: Probe, condition: Condition) -> Probe
     }
 }
 
-// Match ROM: one that differs keeps its speed.
-fn begun_match(p: Probe) -> Probe
-    ensures { λ r. ⌜ r ≡ withMark p false (Matching 0 (p .speed)) ⌝ }
-{
-    begun(
-        p,
-        Condition::Matching {
-            bit: 0,
-            fallback: p.speed,
-        },
-    )
-}
-
 // A probe that goes on with it: its mark stays.
 fn gone_on(p: Probe, condition: Condition) -> Probe
     ensures { λ r. ⌜ r ≡ inCondition p condition ⌝ }
@@ -137,7 +132,7 @@ fn took_bits(before: Probe, byte: u8) -> Probe
 }
 
 // One that matches its ID goes on by eight bits if all of them agree.
-fn took_matching(p: Probe, bit: u8, fallback: u8, byte: u8) -> Probe
+fn took_matching(p: Probe, bit: u8, fallback: bool, byte: u8) -> Probe
     requires { ⌜ p .condition ≡ Matching bit fallback ⌝ }
     ensures { λ r. ⌜ r ≡ tookBits 8 byte p ⌝ }
 {
@@ -145,12 +140,7 @@ fn took_matching(p: Probe, bit: u8, fallback: u8, byte: u8) -> Probe
         return took_bits(p, byte);
     }
     if eight_bits(p.id, bit) != byte {
-        return Probe {
-            id: p.id,
-            marked: p.marked,
-            speed: fallback,
-            condition: Condition::Deaf,
-        };
+        return p.differed(fallback);
     }
     if bit < LAST_EIGHT {
         gone_on(
@@ -192,7 +182,7 @@ struct Prospect {
     levels: u8,
 }
 
-fn outlook(line: Line, speed: u8, byte: u8) -> Prospect
+fn outlook(line: Line, speed: u32, byte: u8) -> Prospect
     ensures { λ r. ⌜ (r .settled ≡ true → (all (foreseen speed 8) (fitted line) ≡ true) × (r .levels ≡ meet 8 byte (fitted line))) ⌝ }
 {
     let n = line.entries();
@@ -232,8 +222,16 @@ fn taken_byte(mut line: Line, byte: u8) -> Line
             Condition::Taking { count, code: _ } => match count {
                 0 => match byte {
                     READ_ROM => line.probes[at] = begun(p, Condition::Sending { bit: 0 }),
-                    MATCH_ROM => line.probes[at] = begun_match(p),
+                    MATCH_ROM => line.probes[at] = begun(p, MATCHING),
                     SEARCH_ROM => line.probes[at] = begun(p, SEARCHING),
+                    SKIP_ROM => line.probes[at] = begun(p, Condition::Selected),
+                    RESUME => {
+                        if p.marked {
+                            line.probes[at] = gone_on(p, Condition::Selected);
+                        } else {
+                            line.probes[at] = gone_on(p, Condition::Deaf);
+                        }
+                    }
                     _ => line.probes[at] = p.obeyed(byte),
                 },
                 _ => line.probes[at] = took_bits(p, byte),
@@ -268,7 +266,7 @@ fn with_level(byte: u8, level: bool) -> u8
     if level { byte / 2 + 128 } else { byte / 2 }
 }
 
-fn slot_by_slot(start: Line, speed: u8, byte: u8) -> Levels
+fn slot_by_slot(start: Line, speed: u32, byte: u8) -> Levels
     ensures { λ r. ⌜ (r .byte ≡ levelsOf speed 8 byte start) × (r .line ≡ slotsOf speed 8 byte start) ⌝ }
 {
     let mut line = start;
@@ -286,7 +284,7 @@ fn slot_by_slot(start: Line, speed: u8, byte: u8) -> Levels
 }
 
 // Eight slots at this speed with the bits of a byte, low bit first.
-pub fn slots(line: Line, speed: u8, byte: u8) -> Levels
+pub fn slots(line: Line, speed: u32, byte: u8) -> Levels
     ensures { λ r. ⌜ (r .byte ≡ levelsOf speed 8 byte line) × (r .line ≡ slotsOf speed 8 byte line) ⌝ }
 {
     if all_rest(line) {

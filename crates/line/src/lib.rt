@@ -67,7 +67,7 @@ impl Line {
     }
 
     // Some probe is at this speed.
-    fn some_reached(self, speed: u8) -> bool
+    fn some_reached(self, speed: u32) -> bool
         ensures { λ r. ⌜ r ≡ any (reaches speed) (fitted self) ⌝ }
     {
         let n = self.entries();
@@ -83,7 +83,7 @@ impl Line {
     }
 
     // Some probe answers a 1-Wire reset at this speed.
-    pub fn present(self, speed: u8) -> bool
+    pub fn present(self, speed: u32) -> bool
         ensures { λ r. ⌜ r ≡ present speed self ⌝ }
     {
         if speed == STANDARD {
@@ -94,7 +94,7 @@ impl Line {
     }
 
     // No probe that slots at this speed reach sends 0. The entry of one that sends 0 is read again, so that the others' speeds are not read.
-    fn all_send(self, speed: u8) -> bool
+    fn all_send(self, speed: u32) -> bool
         ensures { λ r. ⌜ r ≡ all (sendsAt speed) (fitted self) ⌝ }
     {
         let n = self.entries();
@@ -114,14 +114,14 @@ impl Line {
     }
 
     // What the wire carries in a slot in which the bridge writes a bit.
-    pub fn level(self, speed: u8, write: bool) -> bool
+    pub fn level(self, speed: u32, write: bool) -> bool
         ensures { λ r. ⌜ r ≡ level speed write self ⌝ }
     {
         if write { self.all_send(speed) } else { false }
     }
 
     // Every probe that the slot reaches takes the level. One that it does not change is left alone.
-    pub fn taken(mut self, speed: u8, level: bool) -> Line
+    pub fn taken(mut self, speed: u32, level: bool) -> Line
         ensures { λ r. ⌜ r ≡ onFitted (tookAt speed level) self ⌝ }
     {
         let n = self.entries();
@@ -140,7 +140,7 @@ impl Line {
     }
 
     // One slot, in which the bridge writes a bit.
-    pub fn slot(self, speed: u8, write: bool) -> Slotted
+    pub fn slot(self, speed: u32, write: bool) -> Slotted
         ensures { λ r. ⌜ (r .level ≡ level speed write self) × (r .line ≡ slot speed write self) ⌝ }
     {
         let level = self.level(speed, write);
@@ -151,7 +151,7 @@ impl Line {
     }
 
     // The line after a 1-Wire reset at this speed.
-    pub fn reset(mut self, speed: u8) -> Line
+    pub fn reset(mut self, speed: u32) -> Line
         ensures { λ r. ⌜ r ≡ afterReset speed self ⌝ }
     {
         let n = self.entries();

@@ -16,7 +16,7 @@ unfolding restsIn tookIn
 rests-in Deaf b p e = refl
 rests-in (Taking n c) b p e = absurd (false≢true e)
 rests-in (Sending k) b p e = absurd (false≢true e)
-rests-in (Matching k v) b p e = absurd (false≢true e)
+rests-in (Matching k f) b p e = absurd (false≢true e)
 rests-in (Searching k s) b p e = absurd (false≢true e)
 rests-in Selected b p e = refl
 
@@ -29,7 +29,7 @@ unfolding restsIn sendsIn
 silent-in i Deaf e = refl
 silent-in i (Taking n c) e = refl
 silent-in i (Sending k) e = absurd (false≢true e)
-silent-in i (Matching k v) e = refl
+silent-in i (Matching k f) e = refl
 silent-in i (Searching k s) e = absurd (false≢true e)
 silent-in i Selected e = refl
 

@@ -6,6 +6,7 @@ use Rattle.probe.proofs.Probe.reached.Reads as reached
 use Rattle.probe.proofs.Probe.sends.Reads as sends
 use Rattle.probe.proofs.Probe.took.Reads as took
 use Rattle.probe.proofs.Probe.obeyed.Reads as obeyed
+use Rattle.probe.proofs.Probe.differed.Reads as differed
 use Rattle.probe.proofs.Probe.rests.Reads as rests
 use Rattle.probe.proofs.Probe.reset.Reads as reset
 
@@ -23,6 +24,9 @@ one-took κ a x y s t p q = p ∙ sym q
 
 pub one-obeyed : OneAnswer obeyed.Post
 one-obeyed κ a x y s t p q = p ∙ sym q
+
+pub one-differed : OneAnswer differed.Post
+one-differed κ a x y s t p q = p ∙ sym q
 
 pub one-rests : OneAnswer rests.Post
 one-rests κ a x y s t p q = p ∙ sym q

@@ -60,7 +60,7 @@ unfoldable pub sendsIn : ℕ → Condition → Bool
 sendsIn i Deaf = true
 sendsIn i (Taking n c) = true
 sendsIn i (Sending k) = bitOf i k
-sendsIn i (Matching k v) = true
+sendsIn i (Matching k f) = true
 sendsIn i (Searching k s) = sendsSearching i k s
 sendsIn i Selected = true
 
@@ -83,7 +83,7 @@ overdriveSkipped p = withMark (atSpeed overdrive p) false Selected
 
 -- Overdrive Match ROM (R-2): it clears the mark, sets overdrive at once and then matches; a probe that differs goes to standard.
 abbrev pub overdriveMatching : Probe → Probe
-overdriveMatching p = withMark (atSpeed overdrive p) false (Matching 0 standard)
+overdriveMatching p = withMark (atSpeed overdrive p) false (Matching 0 true)
 
 -- The ROM commands. 33h, 55h, F0h and CCh clear the mark (of 33h and CCh document 02 says so, R-5); then the first sends the ID, the
 -- second matches, a probe that differs keeping its speed, the third searches, the last selects. 3Ch and 69h are those of overdrive. A5h
@@ -91,7 +91,7 @@ overdriveMatching p = withMark (atSpeed overdrive p) false (Matching 0 standard)
 unfoldable pub obeyed : ℕ → Probe → Probe
 obeyed c p =
     cond (eqb c 0x33) (withMark p false (Sending 0))
-    (cond (eqb c 0x55) (withMark p false (Matching 0 (p .speed)))
+    (cond (eqb c 0x55) (withMark p false (Matching 0 false))
     (cond (eqb c 0xF0) (withMark p false (Searching 0 First))
     (cond (eqb c 0xCC) (withMark p false Selected)
     (cond (eqb c 0x3C) (overdriveSkipped p)
@@ -116,11 +116,14 @@ agrees l i k = cond (bitOf i k) l (not l)
 unfoldable pub tookSending : ℕ → Probe → Probe
 tookSending k p = inCondition p (cond (leb 63 k) Selected (Sending (k + 1)))
 
--- 55h and 69h: a differing level makes it deaf, at the speed v; after the last bit it is marked and selected.
-unfoldable pub tookMatching : ℕ → ℕ → Bool → Probe → Probe
-tookMatching k v l p =
-    cond (agrees l (p .id) k) (cond (leb 63 k) (withMark p true Selected) (inCondition p (Matching (k + 1) v)))
-    (inCondition (atSpeed v p) Deaf)
+-- A probe that differs is deaf, and f says whether it falls back to standard speed: by 69h it does, by 55h it keeps its speed.
+abbrev pub differed : Bool → Probe → Probe
+differed f p = record { id = p .id; marked = p .marked; speed = cond f standard (p .speed); condition = Deaf }
+
+-- 55h and 69h: a differing level ends it; after the last bit the probe is marked and selected.
+unfoldable pub tookMatching : ℕ → Bool → Bool → Probe → Probe
+tookMatching k f l p =
+    cond (agrees l (p .id) k) (cond (leb 63 k) (withMark p true Selected) (inCondition p (Matching (k + 1) f))) (differed f p)
 
 -- F0h: two slots in which it sends, then one in which it takes the level and is deaf if that differs; after bit 63 it is marked and
 -- selected.
@@ -136,7 +139,7 @@ unfoldable pub tookIn : Condition → Bool → Probe → Probe
 tookIn Deaf l p = p
 tookIn (Taking n c) l p = tookCode n c l p
 tookIn (Sending k) l p = tookSending k p
-tookIn (Matching k v) l p = tookMatching k v l p
+tookIn (Matching k f) l p = tookMatching k f l p
 tookIn (Searching k s) l p = tookSearching k s l p
 tookIn Selected l p = p
 
@@ -152,7 +155,7 @@ unfoldable pub restsIn : Condition → Bool
 restsIn Deaf = true
 restsIn (Taking n c) = false
 restsIn (Sending k) = false
-restsIn (Matching k v) = false
+restsIn (Matching k f) = false
 restsIn (Searching k s) = false
 restsIn Selected = true
 

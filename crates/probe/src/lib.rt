@@ -9,7 +9,7 @@ ghost use mathlib.Core.Path.{_≡_};
 ghost use Prim.Native.Nat.{_+_, _*_, _/_};
 ghost use Rattle.probe.specs.declared.Condition.the-variants.{Matching};
 ghost use Rattle.probe.specs.Probe.{deafNew, inCondition, withMark, reaches, sendsSearching, sends, resumed};
-ghost use Rattle.probe.specs.Probe.{overdrive, atSpeed, obeyed, reset, digit, agrees};
+ghost use Rattle.probe.specs.Probe.{overdrive, atSpeed, obeyed, differed, reset, digit, agrees};
 ghost use Rattle.probe.specs.Probe.{tookCode, tookSending, tookMatching, tookSearching, took, rests};
 
 // The ROM commands.
@@ -32,10 +32,11 @@ const LAST_BIT: u8 = 63;
 
 const LAST_CODE_BIT: u8 = 7;
 
-// The speed of a probe, or of the bridge, is a number: the configuration's bit 1WS.
-pub const STANDARD: u8 = 0;
+// The speed of a probe, or of the bridge, is a number: the configuration's bit 1WS. It is as wide as the room beside a probe's condition,
+// so that a copied probe has no gaps.
+pub const STANDARD: u32 = 0;
 
-pub const OVERDRIVE: u8 = 1;
+pub const OVERDRIVE: u32 = 1;
 
 // Which of the three slots of a search bit comes next.
 pub enum Slot {
@@ -53,8 +54,8 @@ pub enum Condition {
     Taking { count: u8, code: u8 },
     // Sending its ID, at this bit.
     Sending { bit: u8 },
-    // Matching its ID with the line, at this bit. If it differs it goes to the fallback's speed.
-    Matching { bit: u8, fallback: u8 },
+    // Matching its ID with the line, at this bit. By 69h it falls back to standard speed if it differs.
+    Matching { bit: u8, fallback: bool },
     // Searching, at this bit and in this slot of it.
     Searching { bit: u8, slot: Slot },
     Selected,
@@ -70,7 +71,7 @@ pub struct Probe {
     pub id: u64,
     pub marked: bool,
     pub condition: Condition,
-    pub speed: u8,
+    pub speed: u32,
 }
 
 // A code with one bit more: it goes in at the top and moves the earlier ones down.
@@ -81,7 +82,7 @@ fn code_with(code: u8, level: bool) -> u8
 }
 
 // What a probe is in once it has taken a command to match its ID.
-fn matching(fallback: u8) -> Condition
+fn matching(fallback: bool) -> Condition
     ensures { λ r. ⌜ r ≡ Matching 0 fallback ⌝ }
 {
     Condition::Matching { bit: 0, fallback }
@@ -145,7 +146,7 @@ impl Probe {
     }
 
     // Slots at this speed reach the probe.
-    pub fn reached(self, speed: u8) -> bool
+    pub fn reached(self, speed: u32) -> bool
         ensures { λ r. ⌜ r ≡ reaches speed self ⌝ }
     {
         speed == self.speed
@@ -189,11 +190,11 @@ impl Probe {
     {
         match code {
             READ_ROM => self.with_mark(false, Condition::Sending { bit: 0 }),
-            MATCH_ROM => self.with_mark(false, matching(self.speed)),
+            MATCH_ROM => self.with_mark(false, matching(false)),
             SEARCH_ROM => self.with_mark(false, SEARCHING),
             SKIP_ROM => self.with_mark(false, Condition::Selected),
             OVERDRIVE_SKIP_ROM => self.at_overdrive(false, Condition::Selected),
-            OVERDRIVE_MATCH_ROM => self.at_overdrive(false, matching(STANDARD)),
+            OVERDRIVE_MATCH_ROM => self.at_overdrive(false, matching(true)),
             RESUME => self.in_condition(resumed(self.marked)),
             _ => self.in_condition(Condition::Deaf),
         }
@@ -234,7 +235,23 @@ impl Probe {
         }
     }
 
-    fn took_matching(self, bit: u8, fallback: u8, level: bool) -> Probe
+    // A probe that differs from the ID is deaf.
+    pub fn differed(self, fallback: bool) -> Probe
+        ensures { λ r. ⌜ r ≡ differed fallback self ⌝ }
+    {
+        if fallback {
+            Probe {
+                id: self.id,
+                marked: self.marked,
+                speed: STANDARD,
+                condition: Condition::Deaf,
+            }
+        } else {
+            self.in_condition(Condition::Deaf)
+        }
+    }
+
+    fn took_matching(self, bit: u8, fallback: bool, level: bool) -> Probe
         ensures { λ r. ⌜ r ≡ tookMatching bit fallback level self ⌝ }
     {
         if self.agrees(level, bit) {
@@ -247,12 +264,7 @@ impl Probe {
                 })
             }
         } else {
-            Probe {
-                id: self.id,
-                marked: self.marked,
-                speed: fallback,
-                condition: Condition::Deaf,
-            }
+            self.differed(fallback)
         }
     }
 
@@ -324,7 +336,7 @@ impl Probe {
     }
 
     // The probe after a 1-Wire reset at this speed: taking a command, with no bits, if the reset reaches it.
-    pub fn reset(self, speed: u8) -> Probe
+    pub fn reset(self, speed: u32) -> Probe
         ensures { λ r. ⌜ r ≡ reset speed self ⌝ }
     {
         let taking = Condition::Taking { count: 0, code: 0 };

@@ -46,7 +46,7 @@ unfoldable pub settledIn : Bool → Condition → Bool
 settledIn r Deaf = true
 settledIn r (Taking n c) = false
 settledIn r (Sending k) = false
-settledIn r (Matching k v) = false
+settledIn r (Matching k f) = false
 settledIn r (Searching k s) = cond r (isFirst s) false
 settledIn r Selected = true
 
@@ -57,7 +57,7 @@ unfoldable pub decidedIn : Condition → Bool → Probe → Probe
 decidedIn Deaf w p = p
 decidedIn (Taking n c) w p = p
 decidedIn (Sending k) w p = p
-decidedIn (Matching k v) w p = p
+decidedIn (Matching k f) w p = p
 decidedIn (Searching k s) w p = tookSearching k Third w p
 decidedIn Selected w p = p
 

@@ -118,7 +118,7 @@ fn unsettled() -> Prospect
     }
 }
 
-fn outlook(line: Line, speed: u8) -> Prospect
+fn outlook(line: Line, speed: u32) -> Prospect
     ensures { λ r. ⌜ (r .settled ≡ true → (all (settledAt speed) (fitted line) ≡ true) × (r .first ≡ firstLevel speed line) × (r .second ≡ secondLevel speed line)) ⌝ }
 {
     let n = line.entries();
@@ -153,27 +153,26 @@ fn outlook(line: Line, speed: u8) -> Prospect
     }
 }
 
-fn slot_by_slot(start: Line, speed: u8, direction: bool) -> Tripled
+fn slot_by_slot(start: Line, speed: u32, direction: bool) -> Tripled
     ensures { λ r. ⌜ (r .first ≡ firstLevel speed start) × (r .second ≡ secondLevel speed start)
         × (r .bit ≡ writtenBit speed direction start) × (r .line ≡ afterTriplet speed direction start) ⌝ }
 {
-    let one = start.slot(speed, true);
-    let once = one.line;
-    let two = once.slot(speed, true);
-    let twice = two.line;
-    let bit = chosen(one.level, two.level, direction);
-    let three = twice.slot(speed, bit);
-    let line = three.line;
+    let first = start.level(speed, true);
+    let once = start.taken(speed, first);
+    let second = once.level(speed, true);
+    let twice = once.taken(speed, second);
+    let bit = chosen(first, second, direction);
+    let third = twice.level(speed, bit);
     Tripled {
-        first: one.level,
-        second: two.level,
+        first,
+        second,
         bit,
-        line,
+        line: twice.taken(speed, third),
     }
 }
 
 // A triplet at this speed: two slots in which the bridge writes 1, then one with the bit that their levels and the direction choose.
-pub fn triplet(line: Line, speed: u8, direction: bool) -> Tripled
+pub fn triplet(line: Line, speed: u32, direction: bool) -> Tripled
     ensures { λ r. ⌜ (r .first ≡ firstLevel speed line) × (r .second ≡ secondLevel speed line)
         × (r .bit ≡ writtenBit speed direction line) × (r .line ≡ afterTriplet speed direction line) ⌝ }
 {

@@ -15,29 +15,30 @@ returns c = search needs
 eight-bits-requires : tie.Need-eight-bits-requires
 eight-bits-requires c κs = search needs
 
-returns-2 : tie.Need-returns-2
-returns-2 c =
-    let start = c .before .before .before in
-    let a = start .args in
-    sym (matching-differs 8 (a .bit) (a .fallback) (a .byte) (a .p) (start .pre) (omega arith) (λ s. c .if2 .taken (c .before .eight-bits .ensures ∙ s ∙ omega arith)))
+differed-requires : tie.Need-differed-requires
+differed-requires c κs = search needs
 
-add-t9 : tie.Need-add-t9
-add-t9 c = search needs
+returns-2 : tie.Need-returns-2
+returns-2 c = let start = c .before .before .before .before in
+    let a = start .args in
+    c .differed .ensures
+    ∙ sym (matching-differs 8 (a .bit) (a .fallback) (a .byte) (a .p) (start .pre) (omega arith) (λ s. c .before .if2 .taken (c .before .before .eight-bits .ensures ∙ s ∙ omega arith)))
+
+add-t8 : tie.Need-add-t8
+add-t8 c = search needs
 
 gone-on-requires : tie.Need-gone-on-requires
 gone-on-requires c κs = search needs
 
 returns-3 : tie.Need-returns-3
-returns-3 c =
-    let start = c .before .before .before .before .before in
+returns-3 c = let start = c .before .before .before .before .before in
     let a = start .args in
     c .gone-on .ensures
     ∙ sym
     (matching-next 8 (a .bit) (a .fallback) (a .byte) (a .p) (start .pre) (omega arith) (sym (c .before .before .before .eight-bits .ensures) ∙ c .before .before .if2 .left ∙ omega arith))
 
 returns-4 : tie.Need-returns-4
-returns-4 c =
-    let start = c .before .before .before .before in
+returns-4 c = let start = c .before .before .before .before in
     let a = start .args in
     sym (matching-last 7 (a .bit) (a .fallback) (a .byte) (a .p) (start .pre) (omega arith) (sym (c .before .before .eight-bits .ensures) ∙ c .before .if2 .left ∙ omega arith))
 
@@ -48,8 +49,9 @@ took-matching-spec =
     took-bits-requires
     returns
     eight-bits-requires
+    differed-requires
     returns-2
-    add-t9
+    add-t8
     gone-on-requires
     returns-3
     returns-4)

@@ -1,10 +1,10 @@
 -- `probe::Probe::obeyed` meets its contract: each arm knows the code, and the last that it is none of the seven.
 use mathlib.Core.Path.{_≡_, sym, ap, _∙_}
-use mathlib.Core.Bool.{false}
+use mathlib.Core.Bool.{true, false}
 use Prim.Native.Nat.{ℕ}
 use borrow.Author.Tests.{ne-eqb}
 use Rattle.probe.specs.declared.Condition.the-variants.{Matching}
-use Rattle.probe.specs.Probe.{standard, overdrive, obeyed, inCondition, withMark, atSpeed}
+use Rattle.probe.specs.Probe.{overdrive, obeyed, inCondition, withMark, atSpeed}
 use borrow.Author.Needs.{needs}
 use Rattle.probe.proofs.Probe.obeyed.Statement.{statement}
 use Rattle.probe.proofs.Probe.obeyed.Tie as tie
@@ -50,7 +50,7 @@ returns-2 : tie.Need-returns-2
 unfolding obeyed
 returns-2 c =
     let p = c .before .before .before .args .self in
-    let begun : c .before .matching .result ≡ Matching 0 (p .speed) = c .before .matching .ensures in
+    let begun : c .before .matching .result ≡ Matching 0 false = c .before .matching .ensures in
     let went : c .with-mark2 .result ≡ withMark p false (c .before .matching .result) = c .with-mark2 .ensures in
     went ∙ ap (withMark p false) begun ∙ sym (ap (λ (x : ℕ). obeyed x p) (c .before .before .match .keys2))
 
@@ -71,7 +71,7 @@ unfolding obeyed
 returns-6 c =
     let p = c .before .before .before .args .self in
     let q = atSpeed overdrive p in
-    let begun : c .before .matching2 .result ≡ Matching 0 standard = c .before .matching2 .ensures in
+    let begun : c .before .matching2 .result ≡ Matching 0 true = c .before .matching2 .ensures in
     let went : c .at-overdrive2 .result ≡ withMark q false (c .before .matching2 .result) = c .at-overdrive2 .ensures in
     went ∙ ap (withMark q false) begun ∙ sym (ap (λ (x : ℕ). obeyed x p) (c .before .before .match .keys6))
 
