@@ -1,7 +1,7 @@
 // The bridge: one DS2482-101 and the line behind it (document 01, "The bridge", and document 02, R-2 and R-3).
 //
-// A write is checked; one that is accepted has its effect; a 1-Wire command becomes pending and has its effect when time passes; a read gives the register
-// under the read pointer. Bad input is refused by number and changes nothing.
+// A write is checked; one that is accepted has its effect; a 1-Wire command becomes pending and has its effect when time passes; a read
+// gives the register under the read pointer. Bad input is refused by number and changes nothing.
 //
 // Worked example: at power-on the status reads 18h. The write B4h (1-Wire Reset) is accepted, with one probe fitted the status then reads
 // 19h, and 1Ah after time has passed.

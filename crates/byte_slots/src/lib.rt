@@ -18,7 +18,7 @@ ghost use mathlib.Core.Path.{_≡_};
 ghost use Prim.Native.Nat.{_+_, _*_, _/_, _%_, _^_};
 ghost use mathlib.Core.Bool.{true, false};
 ghost use Rattle.probe.specs.declared.Condition.the-variants.{Matching};
-ghost use Rattle.probe.specs.Probe.{rests, inCondition, withMark, digit};
+ghost use Rattle.probe.specs.Probe.{resumed, rests, inCondition, withMark, digit};
 ghost use Rattle.line.specs.Line.{all, fitted, onFitted, levels as levelsOf, slots as slotsOf};
 ghost use Rattle.byte_slots.specs.Foresight.{foreseen, ahead, meet, tookBits};
 
@@ -160,6 +160,28 @@ fn took_matching(p: Probe, bit: u8, fallback: bool, byte: u8) -> Probe
     }
 }
 
+// What Resume makes of a probe with this mark.
+fn resumed(marked: bool) -> Condition
+    ensures { λ r. ⌜ r ≡ resumed marked ⌝ }
+{
+    if marked {
+        Condition::Selected
+    } else {
+        Condition::Deaf
+    }
+}
+
+// One that matches, or any other.
+fn took_other(p: Probe, byte: u8) -> Probe
+    ensures { λ r. ⌜ r ≡ tookBits 8 byte p ⌝ }
+{
+    let condition = p.condition;
+    let Condition::Matching { bit, fallback } = condition else {
+        return took_bits(p, byte);
+    };
+    took_matching(p, bit, fallback, byte)
+}
+
 // No slot changes any probe of the line.
 fn all_rest(line: Line) -> bool
     ensures { λ r. ⌜ r ≡ all rests (fitted line) ⌝ }
@@ -205,8 +227,8 @@ fn outlook(line: Line, speed: u32, byte: u8) -> Prospect
     }
 }
 
-// Every probe takes eight levels that reach it, the bits of a byte. A code of which no bit has come yet is the byte. Each outcome that is met often has
-// an assignment of its own, since one place that stores what several ways have made waits for the memory.
+// Every probe takes eight levels that reach it, the bits of a byte. A code of which no bit has come yet is the byte. Each outcome that is
+// met often has an assignment of its own, since one place that stores what several ways have made waits for the memory.
 fn taken_byte(mut line: Line, byte: u8) -> Line
     ensures { λ r. ⌜ r ≡ onFitted (tookBits 8 byte) line ⌝ }
 {
@@ -225,13 +247,7 @@ fn taken_byte(mut line: Line, byte: u8) -> Line
                     MATCH_ROM => line.probes[at] = begun(p, MATCHING),
                     SEARCH_ROM => line.probes[at] = begun(p, SEARCHING),
                     SKIP_ROM => line.probes[at] = begun(p, Condition::Selected),
-                    RESUME => {
-                        if p.marked {
-                            line.probes[at] = gone_on(p, Condition::Selected);
-                        } else {
-                            line.probes[at] = gone_on(p, Condition::Deaf);
-                        }
-                    }
+                    RESUME => line.probes[at] = gone_on(p, resumed(p.marked)),
                     _ => line.probes[at] = p.obeyed(byte),
                 },
                 _ => line.probes[at] = took_bits(p, byte),
@@ -246,14 +262,8 @@ fn taken_byte(mut line: Line, byte: u8) -> Line
                     }
                 }
             }
-            Condition::Matching { bit, fallback } => line.probes[at] = took_matching(
-                p,
-                bit,
-                fallback,
-                byte,
-            ),
-            Condition::Searching { bit: _, slot: _ } => line.probes[at] = took_bits(p, byte),
             Condition::Selected => {}
+            _ => line.probes[at] = took_other(p, byte),
         }
     }
     line

@@ -93,7 +93,7 @@ impl Line {
         }
     }
 
-    // No probe that slots at this speed reach sends 0. The entry of one that sends 0 is read again, so that the others' speeds are not read.
+    // No probe that slots at this speed reach sends 0. The entry of one that sends 0 is read again, so that no other's speed is read.
     fn all_send(self, speed: u32) -> bool
         ensures { λ r. ⌜ r ≡ all (sendsAt speed) (fitted self) ⌝ }
     {

@@ -1,8 +1,8 @@
 // One probe on the line (document 01, "The probes", and document 02, R-2).
 //
 // A probe is in exactly one of six conditions. In each slot that reaches it, it may send, and then takes the level of the line; a 1-Wire
-// reset makes it take a ROM command. It keeps a mark: Read, Match, Search and Skip ROM clear it, those of overdrive too, a match or a search
-// that ends at the probe sets it, and Resume asks for it. It has a speed, and slots at the other speed do not reach it.
+// reset makes it take a ROM command. It keeps a mark: Read, Match, Search and Skip ROM clear it, those of overdrive too, a match or a
+// search that ends at the probe sets it, and Resume asks for it. It has a speed, and slots at the other speed do not reach it.
 //
 // Worked example: a probe that has taken seven bits of CCh and takes a last 1 is selected.
 ghost use mathlib.Core.Path.{_≡_};

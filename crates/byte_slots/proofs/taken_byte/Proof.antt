@@ -1,12 +1,12 @@
 -- `byte_slots::taken_byte` meets its contract: the entries gone through have taken the byte, those that rest too, whom it does not change.
 use mathlib.Core.Path.{_≡_, refl, sym, ap, _∙_}
-use mathlib.Core.Bool.{Bool, true}
+use mathlib.Core.Bool.{true}
 use Prim.Native.Nat.{ℕ, _+_, _-_, _≤_, _<_}
 use native.Mathlib.Omega.{arith}
 use lib.ListN.{getD}
 use Rattle.probe.specs.declared.Condition.the-variants.{Taking}
 use Rattle.probe.specs.declared.Probe.{Probe}
-use Rattle.probe.specs.Probe.{deafNew, inCondition, resumed, obeyed, rests, restsIn}
+use Rattle.probe.specs.Probe.{deafNew, inCondition, obeyed, rests, restsIn}
 use Rattle.line.specs.declared.Line.{Line}
 use Rattle.line.proofs.Steps.{after, with-entry, after-next, after-kept, after-all}
 use Rattle.byte_slots.specs.Foresight.{tookBits}
@@ -89,8 +89,8 @@ enum-known-condition c = search needs
 begun-requires : tie.Need-begun-requires Inv-loop μ-loop
 begun-requires c κs = search needs
 
-mul-t21 : tie.Need-mul-t21 Inv-loop μ-loop
-mul-t21 c = omega arith
+mul-t19 : tie.Need-mul-t19 Inv-loop μ-loop
+mul-t19 c = omega arith
 
 element-set-from-line : tie.Need-element-set-from-line Inv-loop μ-loop
 element-set-from-line c = omega arith
@@ -105,8 +105,8 @@ loop-again-2 c = obeys (c .before .before .before .before .before .before) _ 0x3
 begun-requires-2 : tie.Need-begun-requires-2 Inv-loop μ-loop
 begun-requires-2 c κs = search needs
 
-mul-t26 : tie.Need-mul-t26 Inv-loop μ-loop
-mul-t26 c = omega arith
+mul-t24 : tie.Need-mul-t24 Inv-loop μ-loop
+mul-t24 c = omega arith
 
 element-set-from-line-2 : tie.Need-element-set-from-line-2 Inv-loop μ-loop
 element-set-from-line-2 c = omega arith
@@ -121,8 +121,8 @@ loop-again-3 c = obeys (c .before .before .before .before .before .before) _ 0x5
 begun-requires-3 : tie.Need-begun-requires-3 Inv-loop μ-loop
 begun-requires-3 c κs = search needs
 
-mul-t32 : tie.Need-mul-t32 Inv-loop μ-loop
-mul-t32 c = omega arith
+mul-t30 : tie.Need-mul-t30 Inv-loop μ-loop
+mul-t30 c = omega arith
 
 element-set-from-line-3 : tie.Need-element-set-from-line-3 Inv-loop μ-loop
 element-set-from-line-3 c = omega arith
@@ -137,8 +137,8 @@ loop-again-4 c = obeys (c .before .before .before .before .before .before) _ 0xF
 begun-requires-4 : tie.Need-begun-requires-4 Inv-loop μ-loop
 begun-requires-4 c κs = search needs
 
-mul-t37 : tie.Need-mul-t37 Inv-loop μ-loop
-mul-t37 c = omega arith
+mul-t35 : tie.Need-mul-t35 Inv-loop μ-loop
+mul-t35 c = omega arith
 
 element-set-from-line-4 : tie.Need-element-set-from-line-4 Inv-loop μ-loop
 element-set-from-line-4 c = omega arith
@@ -150,11 +150,14 @@ loop-again-5 : tie.Need-loop-again-5 Inv-loop μ-loop
 unfolding obeyed
 loop-again-5 c = obeys (c .before .before .before .before .before .before) _ 0xCC (c .before .before .before .before .condition .given .1) (c .before .before .match2 .keys1) (omega arith) (c .before .match3 .keys4) (c .begun4 .ensures)
 
+resumed-requires : tie.Need-resumed-requires Inv-loop μ-loop
+resumed-requires c κs = search needs
+
 gone-on-requires : tie.Need-gone-on-requires Inv-loop μ-loop
 gone-on-requires c κs = search needs
 
-mul-t43 : tie.Need-mul-t43 Inv-loop μ-loop
-mul-t43 c = omega arith
+mul-t40 : tie.Need-mul-t40 Inv-loop μ-loop
+mul-t40 c = omega arith
 
 element-set-from-line-5 : tie.Need-element-set-from-line-5 Inv-loop μ-loop
 element-set-from-line-5 c = omega arith
@@ -163,17 +166,17 @@ loop-less-6 : tie.Need-loop-less-6 Inv-loop μ-loop
 loop-less-6 c = omega arith
 
 loop-again-6 : tie.Need-loop-again-6 Inv-loop μ-loop
-unfolding obeyed resumed
+unfolding obeyed
 loop-again-6 c = let z = c .before .before .before .before .before .before .before in
     let p = probe-of z (deafNew 0) in
     obeys z _ 0xA5 (c .before .before .before .before .before .condition .given .1) (c .before .before .before .match2 .keys1) (omega arith) (c .before .before .match3 .keys5)
-    (c .gone-on .ensures ∙ sym (ap (λ (t : Bool). inCondition p (resumed t)) (c .before .if1 .taken)))
+    (c .gone-on .ensures ∙ ap (inCondition p) (c .before .resumed .ensures))
 
-gone-on-requires-2 : tie.Need-gone-on-requires-2 Inv-loop μ-loop
-gone-on-requires-2 c κs = search needs
+obeyed-requires : tie.Need-obeyed-requires Inv-loop μ-loop
+obeyed-requires c κs = search needs
 
-mul-t48 : tie.Need-mul-t48 Inv-loop μ-loop
-mul-t48 c = omega arith
+mul-t44 : tie.Need-mul-t44 Inv-loop μ-loop
+mul-t44 c = omega arith
 
 element-set-from-line-6 : tie.Need-element-set-from-line-6 Inv-loop μ-loop
 element-set-from-line-6 c = omega arith
@@ -182,17 +185,13 @@ loop-less-7 : tie.Need-loop-less-7 Inv-loop μ-loop
 loop-less-7 c = omega arith
 
 loop-again-7 : tie.Need-loop-again-7 Inv-loop μ-loop
-unfolding obeyed resumed
-loop-again-7 c = let z = c .before .before .before .before .before .before .before in
-    let p = probe-of z (deafNew 0) in
-    obeys z _ 0xA5 (c .before .before .before .before .before .condition .given .1) (c .before .before .before .match2 .keys1) (omega arith) (c .before .before .match3 .keys5)
-    (c .gone-on2 .ensures ∙ sym (ap (λ (t : Bool). inCondition p (resumed t)) (c .before .if1 .left)))
+loop-again-7 c = obeys (c .before .before .before .before .before .before) _ _ (c .before .before .before .before .condition .given .1) (c .before .before .match2 .keys1) (omega arith) refl (c .obeyed .ensures)
 
-obeyed-requires : tie.Need-obeyed-requires Inv-loop μ-loop
-obeyed-requires c κs = search needs
+took-bits-requires : tie.Need-took-bits-requires Inv-loop μ-loop
+took-bits-requires c κs = search needs
 
-mul-t52 : tie.Need-mul-t52 Inv-loop μ-loop
-mul-t52 c = omega arith
+mul-t48 : tie.Need-mul-t48 Inv-loop μ-loop
+mul-t48 c = omega arith
 
 element-set-from-line-7 : tie.Need-element-set-from-line-7 Inv-loop μ-loop
 element-set-from-line-7 c = omega arith
@@ -201,13 +200,19 @@ loop-less-8 : tie.Need-loop-less-8 Inv-loop μ-loop
 loop-less-8 c = omega arith
 
 loop-again-8 : tie.Need-loop-again-8 Inv-loop μ-loop
-loop-again-8 c = obeys (c .before .before .before .before .before .before) _ _ (c .before .before .before .before .condition .given .1) (c .before .before .match2 .keys1) (omega arith) refl (c .obeyed .ensures)
+loop-again-8 c = stored (c .before .before .before .before .before) _ (c .took-bits .ensures)
 
-took-bits-requires : tie.Need-took-bits-requires Inv-loop μ-loop
-took-bits-requires c κs = search needs
+enum-known-condition-2 : tie.Need-enum-known-condition-2 Inv-loop μ-loop
+enum-known-condition-2 c = search needs
 
-mul-t56 : tie.Need-mul-t56 Inv-loop μ-loop
-mul-t56 c = omega arith
+add-t53 : tie.Need-add-t53 Inv-loop μ-loop
+add-t53 c = omega arith
+
+gone-on-requires-2 : tie.Need-gone-on-requires-2 Inv-loop μ-loop
+gone-on-requires-2 c κs = search needs
+
+mul-t55 : tie.Need-mul-t55 Inv-loop μ-loop
+mul-t55 c = omega arith
 
 element-set-from-line-8 : tie.Need-element-set-from-line-8 Inv-loop μ-loop
 element-set-from-line-8 c = omega arith
@@ -216,19 +221,14 @@ loop-less-9 : tie.Need-loop-less-9 Inv-loop μ-loop
 loop-less-9 c = omega arith
 
 loop-again-9 : tie.Need-loop-again-9 Inv-loop μ-loop
-loop-again-9 c = stored (c .before .before .before .before .before) _ (c .took-bits .ensures)
-
-enum-known-condition-2 : tie.Need-enum-known-condition-2 Inv-loop μ-loop
-enum-known-condition-2 c = search needs
-
-add-t61 : tie.Need-add-t61 Inv-loop μ-loop
-add-t61 c = omega arith
+loop-again-9 c = let found = c .before .before .before .condition2 .given in
+    stored (c .before .before .before .before .before) _ (c .gone-on2 .ensures ∙ sym (sending-next 8 (found .0 .0) _ _ (found .1) (omega arith)))
 
 gone-on-requires-3 : tie.Need-gone-on-requires-3 Inv-loop μ-loop
 gone-on-requires-3 c κs = search needs
 
-mul-t63 : tie.Need-mul-t63 Inv-loop μ-loop
-mul-t63 c = omega arith
+mul-t60 : tie.Need-mul-t60 Inv-loop μ-loop
+mul-t60 c = omega arith
 
 element-set-from-line-9 : tie.Need-element-set-from-line-9 Inv-loop μ-loop
 element-set-from-line-9 c = omega arith
@@ -237,14 +237,14 @@ loop-less-10 : tie.Need-loop-less-10 Inv-loop μ-loop
 loop-less-10 c = omega arith
 
 loop-again-10 : tie.Need-loop-again-10 Inv-loop μ-loop
-loop-again-10 c = let found = c .before .before .before .condition2 .given in
-    stored (c .before .before .before .before .before) _ (c .gone-on3 .ensures ∙ sym (sending-next 8 (found .0 .0) _ _ (found .1) (omega arith)))
+loop-again-10 c = let found = c .before .before .before .before .condition2 .given in
+    stored (c .before .before .before .before .before .before) _ (c .gone-on3 .ensures ∙ sym (sending-last 7 (found .0 .0) _ _ (found .1) (omega arith)))
 
-gone-on-requires-4 : tie.Need-gone-on-requires-4 Inv-loop μ-loop
-gone-on-requires-4 c κs = search needs
+took-bits-requires-2 : tie.Need-took-bits-requires-2 Inv-loop μ-loop
+took-bits-requires-2 c κs = search needs
 
-mul-t68 : tie.Need-mul-t68 Inv-loop μ-loop
-mul-t68 c = omega arith
+mul-t64 : tie.Need-mul-t64 Inv-loop μ-loop
+mul-t64 c = omega arith
 
 element-set-from-line-10 : tie.Need-element-set-from-line-10 Inv-loop μ-loop
 element-set-from-line-10 c = omega arith
@@ -253,69 +253,32 @@ loop-less-11 : tie.Need-loop-less-11 Inv-loop μ-loop
 loop-less-11 c = omega arith
 
 loop-again-11 : tie.Need-loop-again-11 Inv-loop μ-loop
-loop-again-11 c = let found = c .before .before .before .before .condition2 .given in
-    stored (c .before .before .before .before .before .before) _ (c .gone-on4 .ensures ∙ sym (sending-last 7 (found .0 .0) _ _ (found .1) (omega arith)))
+loop-again-11 c = stored (c .before .before .before .before .before .before) _ (c .took-bits2 .ensures)
 
-took-bits-requires-2 : tie.Need-took-bits-requires-2 Inv-loop μ-loop
-took-bits-requires-2 c κs = search needs
-
-mul-t72 : tie.Need-mul-t72 Inv-loop μ-loop
-mul-t72 c = omega arith
-
-element-set-from-line-11 : tie.Need-element-set-from-line-11 Inv-loop μ-loop
-element-set-from-line-11 c = omega arith
+enum-told-2 : tie.Need-enum-told-2 Inv-loop μ-loop
+enum-told-2 c = search needs
 
 loop-less-12 : tie.Need-loop-less-12 Inv-loop μ-loop
 loop-less-12 c = omega arith
 
 loop-again-12 : tie.Need-loop-again-12 Inv-loop μ-loop
-loop-again-12 c = stored (c .before .before .before .before .before .before) _ (c .took-bits2 .ensures)
+unfolding rests restsIn
+loop-again-12 c = left (c .before .before) _ (ap restsIn (c .enum-told2 .given .1))
 
-enum-known-condition-3 : tie.Need-enum-known-condition-3 Inv-loop μ-loop
-enum-known-condition-3 c = search needs
+took-other-requires : tie.Need-took-other-requires Inv-loop μ-loop
+took-other-requires c κs = search needs
 
-took-matching-requires : tie.Need-took-matching-requires Inv-loop μ-loop
-took-matching-requires c κs = search needs
+mul-t68 : tie.Need-mul-t68 Inv-loop μ-loop
+mul-t68 c = omega arith
 
-mul-t76 : tie.Need-mul-t76 Inv-loop μ-loop
-mul-t76 c = omega arith
-
-element-set-from-line-12 : tie.Need-element-set-from-line-12 Inv-loop μ-loop
-element-set-from-line-12 c = omega arith
+element-set-from-line-11 : tie.Need-element-set-from-line-11 Inv-loop μ-loop
+element-set-from-line-11 c = omega arith
 
 loop-less-13 : tie.Need-loop-less-13 Inv-loop μ-loop
 loop-less-13 c = omega arith
 
 loop-again-13 : tie.Need-loop-again-13 Inv-loop μ-loop
-loop-again-13 c = stored (c .before .before .before .before) _ (c .took-matching .ensures)
-
-enum-told-2 : tie.Need-enum-told-2 Inv-loop μ-loop
-enum-told-2 c = search needs
-
-took-bits-requires-3 : tie.Need-took-bits-requires-3 Inv-loop μ-loop
-took-bits-requires-3 c κs = search needs
-
-mul-t80 : tie.Need-mul-t80 Inv-loop μ-loop
-mul-t80 c = omega arith
-
-element-set-from-line-13 : tie.Need-element-set-from-line-13 Inv-loop μ-loop
-element-set-from-line-13 c = omega arith
-
-loop-less-14 : tie.Need-loop-less-14 Inv-loop μ-loop
-loop-less-14 c = omega arith
-
-loop-again-14 : tie.Need-loop-again-14 Inv-loop μ-loop
-loop-again-14 c = stored (c .before .before .before) _ (c .took-bits3 .ensures)
-
-enum-told-3 : tie.Need-enum-told-3 Inv-loop μ-loop
-enum-told-3 c = search needs
-
-loop-less-15 : tie.Need-loop-less-15 Inv-loop μ-loop
-loop-less-15 c = omega arith
-
-loop-again-15 : tie.Need-loop-again-15 Inv-loop μ-loop
-unfolding rests restsIn
-loop-again-15 c = left (c .before .before) _ (ap restsIn (c .enum-told3 .given .1))
+loop-again-13 c = stored (c .before .before) _ (c .took-other .ensures)
 
 returns : tie.Need-returns Inv-loop μ-loop
 returns c = let l = c .before .loop in
@@ -341,75 +304,64 @@ taken-byte-spec =
     loop-again
     enum-known-condition
     begun-requires
-    mul-t21
+    mul-t19
     element-set-from-line
     loop-less-2
     loop-again-2
     begun-requires-2
-    mul-t26
+    mul-t24
     element-set-from-line-2
     loop-less-3
     loop-again-3
     begun-requires-3
-    mul-t32
+    mul-t30
     element-set-from-line-3
     loop-less-4
     loop-again-4
     begun-requires-4
-    mul-t37
+    mul-t35
     element-set-from-line-4
     loop-less-5
     loop-again-5
+    resumed-requires
     gone-on-requires
-    mul-t43
+    mul-t40
     element-set-from-line-5
     loop-less-6
     loop-again-6
-    gone-on-requires-2
-    mul-t48
+    obeyed-requires
+    mul-t44
     element-set-from-line-6
     loop-less-7
     loop-again-7
-    obeyed-requires
-    mul-t52
+    took-bits-requires
+    mul-t48
     element-set-from-line-7
     loop-less-8
     loop-again-8
-    took-bits-requires
-    mul-t56
+    enum-known-condition-2
+    add-t53
+    gone-on-requires-2
+    mul-t55
     element-set-from-line-8
     loop-less-9
     loop-again-9
-    enum-known-condition-2
-    add-t61
     gone-on-requires-3
-    mul-t63
+    mul-t60
     element-set-from-line-9
     loop-less-10
     loop-again-10
-    gone-on-requires-4
-    mul-t68
+    took-bits-requires-2
+    mul-t64
     element-set-from-line-10
     loop-less-11
     loop-again-11
-    took-bits-requires-2
-    mul-t72
-    element-set-from-line-11
+    enum-told-2
     loop-less-12
     loop-again-12
-    enum-known-condition-3
-    took-matching-requires
-    mul-t76
-    element-set-from-line-12
+    took-other-requires
+    mul-t68
+    element-set-from-line-11
     loop-less-13
     loop-again-13
-    enum-told-2
-    took-bits-requires-3
-    mul-t80
-    element-set-from-line-13
-    loop-less-14
-    loop-again-14
-    enum-told-3
-    loop-less-15
-    loop-again-15
     returns)
