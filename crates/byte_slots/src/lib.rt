@@ -132,7 +132,7 @@ fn took_bits(before: Probe, byte: u8) -> Probe
 }
 
 // One that matches its ID goes on by eight bits if all of them agree.
-fn took_matching(p: Probe, bit: u8, fallback: bool, byte: u8) -> Probe
+fn matched(p: Probe, bit: u8, fallback: bool, byte: u8) -> Probe
     requires { ⌜ p .condition ≡ Matching bit fallback ⌝ }
     ensures { λ r. ⌜ r ≡ tookBits 8 byte p ⌝ }
 {
@@ -169,17 +169,6 @@ fn resumed(marked: bool) -> Condition
     } else {
         Condition::Deaf
     }
-}
-
-// One that matches, or any other.
-fn took_other(p: Probe, byte: u8) -> Probe
-    ensures { λ r. ⌜ r ≡ tookBits 8 byte p ⌝ }
-{
-    let condition = p.condition;
-    let Condition::Matching { bit, fallback } = condition else {
-        return took_bits(p, byte);
-    };
-    took_matching(p, bit, fallback, byte)
 }
 
 // No slot changes any probe of the line.
@@ -255,15 +244,15 @@ fn taken_byte(mut line: Line, byte: u8) -> Line
             Condition::Sending { bit } => {
                 if bit < LAST_EIGHT {
                     line.probes[at] = gone_on(p, Condition::Sending { bit: bit + 8 });
+                } else if bit == LAST_EIGHT {
+                    line.probes[at] = gone_on(p, Condition::Selected);
                 } else {
-                    match bit {
-                        LAST_EIGHT => line.probes[at] = gone_on(p, Condition::Selected),
-                        _ => line.probes[at] = took_bits(p, byte),
-                    }
+                    line.probes[at] = took_bits(p, byte);
                 }
             }
+            Condition::Matching { bit, fallback: f } => line.probes[at] = matched(p, bit, f, byte),
+            Condition::Searching { bit: _, slot: _ } => line.probes[at] = took_bits(p, byte),
             Condition::Selected => {}
-            _ => line.probes[at] = took_other(p, byte),
         }
     }
     line

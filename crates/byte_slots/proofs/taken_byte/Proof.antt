@@ -89,8 +89,8 @@ enum-known-condition c = search needs
 begun-requires : tie.Need-begun-requires Inv-loop μ-loop
 begun-requires c κs = search needs
 
-mul-t19 : tie.Need-mul-t19 Inv-loop μ-loop
-mul-t19 c = omega arith
+mul-t21 : tie.Need-mul-t21 Inv-loop μ-loop
+mul-t21 c = omega arith
 
 element-set-from-line : tie.Need-element-set-from-line Inv-loop μ-loop
 element-set-from-line c = omega arith
@@ -105,8 +105,8 @@ loop-again-2 c = obeys (c .before .before .before .before .before .before) _ 0x3
 begun-requires-2 : tie.Need-begun-requires-2 Inv-loop μ-loop
 begun-requires-2 c κs = search needs
 
-mul-t24 : tie.Need-mul-t24 Inv-loop μ-loop
-mul-t24 c = omega arith
+mul-t26 : tie.Need-mul-t26 Inv-loop μ-loop
+mul-t26 c = omega arith
 
 element-set-from-line-2 : tie.Need-element-set-from-line-2 Inv-loop μ-loop
 element-set-from-line-2 c = omega arith
@@ -121,8 +121,8 @@ loop-again-3 c = obeys (c .before .before .before .before .before .before) _ 0x5
 begun-requires-3 : tie.Need-begun-requires-3 Inv-loop μ-loop
 begun-requires-3 c κs = search needs
 
-mul-t30 : tie.Need-mul-t30 Inv-loop μ-loop
-mul-t30 c = omega arith
+mul-t32 : tie.Need-mul-t32 Inv-loop μ-loop
+mul-t32 c = omega arith
 
 element-set-from-line-3 : tie.Need-element-set-from-line-3 Inv-loop μ-loop
 element-set-from-line-3 c = omega arith
@@ -137,8 +137,8 @@ loop-again-4 c = obeys (c .before .before .before .before .before .before) _ 0xF
 begun-requires-4 : tie.Need-begun-requires-4 Inv-loop μ-loop
 begun-requires-4 c κs = search needs
 
-mul-t35 : tie.Need-mul-t35 Inv-loop μ-loop
-mul-t35 c = omega arith
+mul-t37 : tie.Need-mul-t37 Inv-loop μ-loop
+mul-t37 c = omega arith
 
 element-set-from-line-4 : tie.Need-element-set-from-line-4 Inv-loop μ-loop
 element-set-from-line-4 c = omega arith
@@ -156,8 +156,8 @@ resumed-requires c κs = search needs
 gone-on-requires : tie.Need-gone-on-requires Inv-loop μ-loop
 gone-on-requires c κs = search needs
 
-mul-t40 : tie.Need-mul-t40 Inv-loop μ-loop
-mul-t40 c = omega arith
+mul-t42 : tie.Need-mul-t42 Inv-loop μ-loop
+mul-t42 c = omega arith
 
 element-set-from-line-5 : tie.Need-element-set-from-line-5 Inv-loop μ-loop
 element-set-from-line-5 c = omega arith
@@ -175,8 +175,8 @@ loop-again-6 c = let z = c .before .before .before .before .before .before .befo
 obeyed-requires : tie.Need-obeyed-requires Inv-loop μ-loop
 obeyed-requires c κs = search needs
 
-mul-t44 : tie.Need-mul-t44 Inv-loop μ-loop
-mul-t44 c = omega arith
+mul-t46 : tie.Need-mul-t46 Inv-loop μ-loop
+mul-t46 c = omega arith
 
 element-set-from-line-6 : tie.Need-element-set-from-line-6 Inv-loop μ-loop
 element-set-from-line-6 c = omega arith
@@ -190,8 +190,8 @@ loop-again-7 c = obeys (c .before .before .before .before .before .before) _ _ (
 took-bits-requires : tie.Need-took-bits-requires Inv-loop μ-loop
 took-bits-requires c κs = search needs
 
-mul-t48 : tie.Need-mul-t48 Inv-loop μ-loop
-mul-t48 c = omega arith
+mul-t50 : tie.Need-mul-t50 Inv-loop μ-loop
+mul-t50 c = omega arith
 
 element-set-from-line-7 : tie.Need-element-set-from-line-7 Inv-loop μ-loop
 element-set-from-line-7 c = omega arith
@@ -205,14 +205,14 @@ loop-again-8 c = stored (c .before .before .before .before .before) _ (c .took-b
 enum-known-condition-2 : tie.Need-enum-known-condition-2 Inv-loop μ-loop
 enum-known-condition-2 c = search needs
 
-add-t53 : tie.Need-add-t53 Inv-loop μ-loop
-add-t53 c = omega arith
+add-t55 : tie.Need-add-t55 Inv-loop μ-loop
+add-t55 c = omega arith
 
 gone-on-requires-2 : tie.Need-gone-on-requires-2 Inv-loop μ-loop
 gone-on-requires-2 c κs = search needs
 
-mul-t55 : tie.Need-mul-t55 Inv-loop μ-loop
-mul-t55 c = omega arith
+mul-t57 : tie.Need-mul-t57 Inv-loop μ-loop
+mul-t57 c = omega arith
 
 element-set-from-line-8 : tie.Need-element-set-from-line-8 Inv-loop μ-loop
 element-set-from-line-8 c = omega arith
@@ -227,8 +227,8 @@ loop-again-9 c = let found = c .before .before .before .condition2 .given in
 gone-on-requires-3 : tie.Need-gone-on-requires-3 Inv-loop μ-loop
 gone-on-requires-3 c κs = search needs
 
-mul-t60 : tie.Need-mul-t60 Inv-loop μ-loop
-mul-t60 c = omega arith
+mul-t63 : tie.Need-mul-t63 Inv-loop μ-loop
+mul-t63 c = omega arith
 
 element-set-from-line-9 : tie.Need-element-set-from-line-9 Inv-loop μ-loop
 element-set-from-line-9 c = omega arith
@@ -243,8 +243,8 @@ loop-again-10 c = let found = c .before .before .before .before .condition2 .giv
 took-bits-requires-2 : tie.Need-took-bits-requires-2 Inv-loop μ-loop
 took-bits-requires-2 c κs = search needs
 
-mul-t64 : tie.Need-mul-t64 Inv-loop μ-loop
-mul-t64 c = omega arith
+mul-t67 : tie.Need-mul-t67 Inv-loop μ-loop
+mul-t67 c = omega arith
 
 element-set-from-line-10 : tie.Need-element-set-from-line-10 Inv-loop μ-loop
 element-set-from-line-10 c = omega arith
@@ -255,30 +255,51 @@ loop-less-11 c = omega arith
 loop-again-11 : tie.Need-loop-again-11 Inv-loop μ-loop
 loop-again-11 c = stored (c .before .before .before .before .before .before) _ (c .took-bits2 .ensures)
 
-enum-told-2 : tie.Need-enum-told-2 Inv-loop μ-loop
-enum-told-2 c = search needs
+enum-known-condition-3 : tie.Need-enum-known-condition-3 Inv-loop μ-loop
+enum-known-condition-3 c = search needs
+
+matched-requires : tie.Need-matched-requires Inv-loop μ-loop
+matched-requires c κs = search needs
+
+mul-t71 : tie.Need-mul-t71 Inv-loop μ-loop
+mul-t71 c = omega arith
+
+element-set-from-line-11 : tie.Need-element-set-from-line-11 Inv-loop μ-loop
+element-set-from-line-11 c = omega arith
 
 loop-less-12 : tie.Need-loop-less-12 Inv-loop μ-loop
 loop-less-12 c = omega arith
 
 loop-again-12 : tie.Need-loop-again-12 Inv-loop μ-loop
-unfolding rests restsIn
-loop-again-12 c = left (c .before .before) _ (ap restsIn (c .enum-told2 .given .1))
+loop-again-12 c = stored (c .before .before .before .before) _ (c .matched .ensures)
 
-took-other-requires : tie.Need-took-other-requires Inv-loop μ-loop
-took-other-requires c κs = search needs
+enum-told-2 : tie.Need-enum-told-2 Inv-loop μ-loop
+enum-told-2 c = search needs
 
-mul-t68 : tie.Need-mul-t68 Inv-loop μ-loop
-mul-t68 c = omega arith
+took-bits-requires-3 : tie.Need-took-bits-requires-3 Inv-loop μ-loop
+took-bits-requires-3 c κs = search needs
 
-element-set-from-line-11 : tie.Need-element-set-from-line-11 Inv-loop μ-loop
-element-set-from-line-11 c = omega arith
+mul-t75 : tie.Need-mul-t75 Inv-loop μ-loop
+mul-t75 c = omega arith
+
+element-set-from-line-12 : tie.Need-element-set-from-line-12 Inv-loop μ-loop
+element-set-from-line-12 c = omega arith
 
 loop-less-13 : tie.Need-loop-less-13 Inv-loop μ-loop
 loop-less-13 c = omega arith
 
 loop-again-13 : tie.Need-loop-again-13 Inv-loop μ-loop
-loop-again-13 c = stored (c .before .before) _ (c .took-other .ensures)
+loop-again-13 c = stored (c .before .before .before) _ (c .took-bits3 .ensures)
+
+enum-told-3 : tie.Need-enum-told-3 Inv-loop μ-loop
+enum-told-3 c = search needs
+
+loop-less-14 : tie.Need-loop-less-14 Inv-loop μ-loop
+loop-less-14 c = omega arith
+
+loop-again-14 : tie.Need-loop-again-14 Inv-loop μ-loop
+unfolding rests restsIn
+loop-again-14 c = left (c .before .before) _ (ap restsIn (c .enum-told3 .given .1))
 
 returns : tie.Need-returns Inv-loop μ-loop
 returns c = let l = c .before .loop in
@@ -304,64 +325,71 @@ taken-byte-spec =
     loop-again
     enum-known-condition
     begun-requires
-    mul-t19
+    mul-t21
     element-set-from-line
     loop-less-2
     loop-again-2
     begun-requires-2
-    mul-t24
+    mul-t26
     element-set-from-line-2
     loop-less-3
     loop-again-3
     begun-requires-3
-    mul-t30
+    mul-t32
     element-set-from-line-3
     loop-less-4
     loop-again-4
     begun-requires-4
-    mul-t35
+    mul-t37
     element-set-from-line-4
     loop-less-5
     loop-again-5
     resumed-requires
     gone-on-requires
-    mul-t40
+    mul-t42
     element-set-from-line-5
     loop-less-6
     loop-again-6
     obeyed-requires
-    mul-t44
+    mul-t46
     element-set-from-line-6
     loop-less-7
     loop-again-7
     took-bits-requires
-    mul-t48
+    mul-t50
     element-set-from-line-7
     loop-less-8
     loop-again-8
     enum-known-condition-2
-    add-t53
+    add-t55
     gone-on-requires-2
-    mul-t55
+    mul-t57
     element-set-from-line-8
     loop-less-9
     loop-again-9
     gone-on-requires-3
-    mul-t60
+    mul-t63
     element-set-from-line-9
     loop-less-10
     loop-again-10
     took-bits-requires-2
-    mul-t64
+    mul-t67
     element-set-from-line-10
     loop-less-11
     loop-again-11
-    enum-told-2
+    enum-known-condition-3
+    matched-requires
+    mul-t71
+    element-set-from-line-11
     loop-less-12
     loop-again-12
-    took-other-requires
-    mul-t68
-    element-set-from-line-11
+    enum-told-2
+    took-bits-requires-3
+    mul-t75
+    element-set-from-line-12
     loop-less-13
     loop-again-13
+    enum-told-3
+    loop-less-14
+    loop-again-14
     returns)

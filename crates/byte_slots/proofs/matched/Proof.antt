@@ -1,10 +1,10 @@
--- `byte_slots::took_matching` meets its contract: by whether the eight bits are those of the byte.
+-- `byte_slots::matched` meets its contract: by whether the eight bits are those of the byte.
 use mathlib.Core.Path.{sym, _∙_}
 use native.Mathlib.Omega.{arith}
 use Rattle.byte_slots.proofs.Whole.{matching-next, matching-last, matching-differs}
 use borrow.Author.Needs.{needs}
-use Rattle.byte_slots.proofs.took_matching.Statement.{statement}
-use Rattle.byte_slots.proofs.took_matching.Tie as tie
+use Rattle.byte_slots.proofs.matched.Statement.{statement}
+use Rattle.byte_slots.proofs.matched.Tie as tie
 
 took-bits-requires : tie.Need-took-bits-requires
 took-bits-requires c κs = search needs
@@ -42,8 +42,8 @@ returns-4 c = let start = c .before .before .before .before in
     let a = start .args in
     sym (matching-last 7 (a .bit) (a .fallback) (a .byte) (a .p) (start .pre) (omega arith) (sym (c .before .before .eight-bits .ensures) ∙ c .before .if2 .left ∙ omega arith))
 
-pub took-matching-spec : {M : Type 1} → statement M
-took-matching-spec =
+pub matched-spec : {M : Type 1} → statement M
+matched-spec =
     tie.close
     (tie.spec
     took-bits-requires
