@@ -83,8 +83,10 @@ unfolding foreseenIn
 returns-6 c = c .reached3 .ensures ∙ sym (by-condition _ _ (c .before .enum-told2 .given .1))
 
 returns-7 : tie.Need-returns-7
-unfolding foreseenIn
-returns-7 c = sym (by-condition _ _ (c .enum-told3 .given .1))
+unfolding foreseen foreseenIn
+returns-7 c =
+    let a = c .before .before .args in
+    sym (ap (foreseenIn (reaches (a .speed) (a .p)) 8) (c .enum-told3 .given .1))
 
 returns-8 : tie.Need-returns-8
 unfolding foreseenIn

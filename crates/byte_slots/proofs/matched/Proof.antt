@@ -1,6 +1,7 @@
 -- `byte_slots::matched` meets its contract: by whether the eight bits are those of the byte.
-use mathlib.Core.Path.{sym, _∙_}
+use mathlib.Core.Path.{_≡_, sym, _∙_}
 use native.Mathlib.Omega.{arith}
+use Rattle.probe.specs.Probe.{differed}
 use Rattle.byte_slots.proofs.Whole.{matching-next, matching-last, matching-differs}
 use borrow.Author.Needs.{needs}
 use Rattle.byte_slots.proofs.matched.Statement.{statement}
@@ -21,7 +22,8 @@ differed-requires c κs = search needs
 returns-2 : tie.Need-returns-2
 returns-2 c = let start = c .before .before .before .before in
     let a = start .args in
-    c .differed .ensures
+    let went : c .differed .result ≡ differed (a .fallback) (a .p) = c .differed .ensures in
+    went
     ∙ sym (matching-differs 8 (a .bit) (a .fallback) (a .byte) (a .p) (start .pre) (omega arith) (λ s. c .before .if2 .taken (c .before .before .eight-bits .ensures ∙ s ∙ omega arith)))
 
 add-t8 : tie.Need-add-t8
