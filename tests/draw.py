@@ -10,15 +10,20 @@ from shared import loaded_tool
 
 tool = loaded_tool()
 
+SPEEDS = (0xF0, 0xE1, 0xB4, 0xA5), (0x78, 0x69, 0x3C, 0x2D)  # the configuration bytes of standard speed, and of overdrive
+CONFIGURATIONS = SPEEDS[False] + SPEEDS[True]
+NEAR_MISSES = 0xD2, 0xC3, 0x96, 0x87, 0x5A, 0x4B, 0x1E, 0x0F, 0x79, 0xD0, 0xF4, 0xF8, 0x04  # bit 1 is 1, or the complement is wrong
 PARAMETERS = {  # of each command that has one, those that mean something, and some that look so
     0xE1: (0xF0, 0xE1, 0xC3, 0xD2),
-    0xD2: (0xF0, 0xE1, 0x78, 0x69, 0xD2, 0x5A, 0x4B, 0x79),
+    0xD2: CONFIGURATIONS + NEAR_MISSES,
     0x87: (0x00, 0x80),
     0xA5: (0x33, 0x55, 0xF0, 0xCC, 0xA5, 0x3C, 0x69),
     0x78: (0x00, 0x80),
 }
 COMMANDS = (0xF0, 0xB4, 0x96, *PARAMETERS)
-SPEEDS = (0xF0, 0xE1), (0x78, 0x69)  # the configuration bytes of standard speed, and of overdrive
+ON_THE_LINE = 0xB4, 0x87, 0xA5, 0x96, 0x78  # the 1-Wire commands
+SWITCHING = 0x87, 0xA5  # those that switch the pull-up on, where SPU is 1
+SPU = 0x04  # of a configuration
 READ, WAIT = ('read', b''), ('wait', b'')
 
 
@@ -37,6 +42,15 @@ def done(*data):
 def speed(source, fast):
     """The bridge is put to overdrive if it has to be fast, else to standard speed."""
     return write(0xD2, source.choice(SPEEDS[fast]))
+
+
+def configured(source, strong):
+    """A configuration of either speed, with SPU if the pull-up is wanted."""
+    return write(0xD2, source.choice([byte for byte in CONFIGURATIONS if bool(byte & SPU) == strong]))
+
+
+def configuration_read():
+    return [write(0xE1, 0xC3), READ]
 
 
 def speed_after(fast, event):
@@ -71,8 +85,18 @@ def fitting(source, fitted):
     return 'fit', probe
 
 
-def command(source, _):
-    code = source.choice(COMMANDS)
+def unsound(source, probe):
+    """Eight bytes near this ID that are none: a wrong CRC, the family code 00, zeros, or any."""
+    return source.choice((
+        probe[:7] + bytes([probe[7] ^ 1 << source.randrange(8)]),
+        tool.with_crc(bytes(1) + probe[1:7]),
+        bytes(8),
+        source.randbytes(8),
+    ))
+
+
+def command(source, _, codes=COMMANDS):
+    code = source.choice(codes)
     if code not in PARAMETERS:
         return write(code)
     return write(code, source.choice(PARAMETERS[code]) if source.randrange(4) else source.randrange(256))
@@ -93,7 +117,7 @@ def any_event(source, fitted):
 
 def looked_at(source, events):
     """The events; where time has passed a register is read."""
-    looks = [READ], [READ], [write(0xE1, 0xE1), READ], [write(0xE1, 0xC3), READ]
+    looks = [READ], [READ], [write(0xE1, 0xE1), READ], configuration_read()
     return [event for first in events for event in [first, *(source.choice(looks) if first == WAIT else [])]]
 
 
@@ -261,6 +285,58 @@ def overdrive(source):
     return events[:source.choice((len(events), source.randrange(len(events))))]
 
 
+def refusal(source, _):
+    """A write that is refused also where nothing is pending: an unknown code, a wrong number of bytes, a parameter that is not accepted."""
+    code, near = source.choice(COMMANDS), source.choice(CONFIGURATIONS)
+    return source.choice((
+        write(),
+        write(source.choice([byte for byte in range(256) if byte not in COMMANDS]), *source.randbytes(source.randrange(3))),
+        write(code, *source.randbytes(source.choice((0, 2) if code in PARAMETERS else (1, 2)))),
+        write(0xE1, source.randrange(0xC3)),
+        write(0xD2, near ^ 1 << source.randrange(8)),
+        write(0xD2, near ^ 0x22),
+    ))
+
+
+def line_command(source, fitted, codes):
+    """A 1-Wire command, mostly given time. Before that the configuration may be read, a write refused or the bridge reset."""
+    ways = refusal, fitting, command, lambda *_: configured(source, source.randrange(2)), lambda *_: write(0xF0)
+    between = source.choice(([], [], [], configuration_read(), configuration_read(), [source.choice(ways)(source, fitted)]))
+    return [command(source, fitted, codes), *between] + [WAIT] * (source.randrange(10) > 0)
+
+
+def no_command(source, fitted):
+    """An event that leaves the pull-up as it is, where nothing is pending."""
+    ways = (refusal, refusal, refusal, fitting, lambda *_: ('fit', unsound(source, new_id(source))),
+            lambda *_: write(0xE1, source.choice((0xF0, 0xE1, 0xC3))), lambda *_: READ, lambda *_: WAIT, lambda *_: WAIT)
+    return source.choice(ways)(source, fitted)
+
+
+def powered(source, fitted):
+    """The configuration, mostly with SPU, and a 1-Wire command, mostly one that switches the pull-up on; then events that leave it as it
+    is, and often one that ends it. On the way the configuration is read."""
+    first = line_command(source, fitted, source.choice((ON_THE_LINE, SWITCHING, SWITCHING)))
+    events = [configured(source, source.randrange(6) > 0), *[WAIT] * (source.randrange(6) == 0), *first]
+    for _ in range(source.randrange(5)):
+        events += [no_command(source, fitted), *configuration_read() * source.randrange(2)]
+    if source.randrange(3) == 0:
+        events += line_command(source, fitted, ON_THE_LINE)
+    else:
+        events += source.choice(([], [], [configured(source, source.randrange(2))], [write(0xF0)]))
+    return events + configuration_read() * source.randrange(2)
+
+
+def pull_up(source):
+    """Some probes; then the pull-up is switched on, left alone and ended, again and again. Half of the scripts end on the way, and some of
+    all where a command is pending."""
+    fitted = []
+    events = [fitting(source, fitted) for _ in range(source.randrange(5))]
+    for _ in range(source.randrange(1, 20)):
+        events += powered(source, fitted)
+    events = events[:source.choice((len(events), source.randrange(len(events))))]
+    return events + source.choice(([], [], [], [configured(source, True), command(source, fitted, ON_THE_LINE)]))
+
+
 def filling(source, size):
     """As many events as fill a script of this many bytes."""
     room = 8 * size - 16
@@ -343,6 +419,7 @@ SCRIPTS = {  # how many parts of the whole each is, and how it is drawn
     'search': (2, packed(search)),
     'marking': (6, packed(marking)),
     'overdrive': (6, packed(overdrive)),
+    'pull-up': (4, packed(pull_up)),
     'long': (2, long),
     'any bytes': (2, any_bytes),
     'mutated': (7, mutated),
@@ -350,16 +427,6 @@ SCRIPTS = {  # how many parts of the whole each is, and how it is drawn
 
 
 # ---- probes that come and go
-
-
-def unsound(source, probe):
-    """Eight bytes near this ID that are none: a wrong CRC, the family code 00, zeros, or any."""
-    return source.choice((
-        probe[:7] + bytes([probe[7] ^ 1 << source.randrange(8)]),
-        tool.with_crc(bytes(1) + probe[1:7]),
-        bytes(8),
-        source.randbytes(8),
-    ))
 
 
 def coming(source, line, gone):
@@ -400,9 +467,10 @@ def meant(source, line):
 
 
 def course(source, line):
-    """A reset, a ROM command with what it takes, and slots; after each a register is read."""
+    """A reset, a ROM command with what it takes, and slots; after each a register is read. Every other time the configuration is written
+    first, with SPU or without."""
     code = source.choice((0x33, 0x55, 0x55, 0x55, 0xF0, 0xF0, 0xCC, 0xA5, 0xA5, 0xA5))
-    events = done(0xB4) + rom_command(source, code, meant(source, line))
+    events = [speed(source, False)] * source.randrange(2) + done(0xB4) + rom_command(source, code, meant(source, line))
     events += [event for _ in range(source.randrange(4)) for event in slots(source)]
     return looked_at(source, events)
 
@@ -432,6 +500,14 @@ def speed_swapped(source, line):
     return [speed(source, False), *hurried(source), *swap] + source.choice(([], done(0xB4) + [READ]))
 
 
+def power_swapped(source, line, gone):
+    """The pull-up is switched on and some probes come and go; then often the configuration is read."""
+    events = [configured(source, True), command(source, line, SWITCHING), WAIT]
+    for _ in range(source.randrange(1, 5)):
+        events += swapping(source, line, gone)
+    return events + configuration_read() * source.randrange(2)
+
+
 def stirred(source, events, line, gone):
     """The events with swaps at any place, also where a command is pending, and now and then with another command."""
     seldom = source.choice((5, 12, 40))
@@ -444,8 +520,8 @@ def stirred(source, events, line, gone):
 
 
 def swaps(source):
-    """Some probes, or about 64; then courses, stirred, the last one often cut short; one case in four is at overdrive. No more than the
-    longest script has room for."""
+    """Some probes, or about 64; then courses, stirred, the last one often cut short; one case in four is at overdrive. Some
+    cases end with swaps while the pull-up is on. No more than the longest script has room for."""
     line, gone = [], []
     fast = source.randrange(4) == 0
     number = source.choice((source.randrange(1, 7), source.randrange(1, 7), source.randrange(80, 110)))
@@ -458,6 +534,8 @@ def swaps(source):
         events += swapping(source, line, gone) if source.randrange(2) else []
     if source.randrange(2 if fast else 5) == 0:
         events += (speed_swapped if fast else mark_swapped)(source, line)
+    elif source.randrange(4) == 0:
+        events += power_swapped(source, line, gone)
     return with_room(events, swap_bits)
 
 

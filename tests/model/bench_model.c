@@ -4,11 +4,11 @@
  *   bench_model            one script on standard input, its transcript on standard output
  *   bench_model --many     scripts one after the other, each behind its length in four bytes, low byte
  *                          first; transcripts in the same form
- *   bench_model --probes   as --many, with the probes that each script leaves in place of its transcript;
- *                          one that is not of the form leaves none
- *   bench_model --swaps    as --many, with the probes behind the transcript, of a form that the bench does not have:
- *                          of kind 3 one more bit stands before the ID, 0 for a fitting, 1 for a withdrawal,
- *                          which prints as O
+ *   bench_model --probes   as --many, with what each script leaves in place of its transcript: the pull-up
+ *                          where it is on, and the probes; one that is not of the form leaves neither
+ *   bench_model --swaps    as --many, with the same behind the transcript, of a form that the bench does not
+ *                          have: of kind 3 one more bit stands before the ID, 0 for a fitting, 1 for a
+ *                          withdrawal, which prints as O
  */
 #include <stdint.h>
 #include <stdio.h>
@@ -148,6 +148,7 @@ struct bridge {
     uint8_t dir, tsb, sbr, rst, ppd;
     uint8_t configuration, pointer, data;
     uint8_t pending, parameter; /* the code of the command that waits, or 0 */
+    uint8_t pullup;             /* whether the strong pull-up is on */
     int count;
     struct probe probes[PROBES_MOST];
 };
@@ -156,6 +157,12 @@ struct bridge {
 static int at_overdrive(const struct bridge *b)
 {
     return b->configuration >> 3 & 1;
+}
+
+/* SPU of the configuration: whether the pull-up follows what is written to the line. */
+static int strong(const struct bridge *b)
+{
+    return b->configuration >> 2 & 1;
 }
 
 static int reached(const struct bridge *b, const struct probe *p)
@@ -181,7 +188,15 @@ static void device_reset(struct bridge *b)
     b->rst = 1;
     b->configuration = 0;
     b->pointer = AT_STATUS;
-    b->pending = 0;
+    b->pending = b->pullup = 0;
+}
+
+/* It takes SPU with it, else the command that ends it would switch it on again. */
+static void end_pullup(struct bridge *b)
+{
+    if (b->pullup)
+        b->configuration &= 11;
+    b->pullup = 0;
 }
 
 static void triplet(struct bridge *b)
@@ -233,6 +248,8 @@ static void time_passes(struct bridge *b)
         triplet(b);
         break;
     }
+    if (b->pending == 0x87 || b->pending == 0xA5)
+        b->pullup = (uint8_t)strong(b);
     b->pending = 0;
 }
 
@@ -267,6 +284,19 @@ static unsigned set_pointer(struct bridge *b, uint8_t x)
     return 0;
 }
 
+/* Accepted if the upper nibble is the complement of the lower and bit 1, which has no use here, is 0. */
+static unsigned configure(struct bridge *b, uint8_t x)
+{
+    if ((x >> 4 ^ (x & 15)) != 15 || (x & 2))
+        return 8;
+    b->configuration = x & 15;
+    if (!strong(b))
+        b->pullup = 0;
+    b->rst = 0;
+    b->pointer = AT_CONFIGURATION;
+    return 0;
+}
+
 static unsigned write_bytes(struct bridge *b, const uint8_t *x, unsigned n)
 {
     if (n == 0)
@@ -284,13 +314,9 @@ static unsigned write_bytes(struct bridge *b, const uint8_t *x, unsigned n)
     case 0xE1:
         return set_pointer(b, x[1]);
     case 0xD2:
-        if (x[1] != 0xF0 && x[1] != 0xE1 && x[1] != 0x78 && x[1] != 0x69)
-            return 8;
-        b->configuration = x[1] & 15;
-        b->rst = 0;
-        b->pointer = AT_CONFIGURATION;
-        return 0;
+        return configure(b, x[1]);
     default:
+        end_pullup(b);
         b->pending = x[0];
         b->parameter = n == 2 ? x[1] : 0;
         b->pointer = AT_STATUS;
@@ -485,7 +511,7 @@ static size_t transcript(struct bridge *b, const uint8_t *bytes, size_t n, int s
     return (size_t)(to - out);
 }
 
-/* ---- the probes as bridge_cases shows them */
+/* ---- the pull-up and the probes as bridge_cases shows them */
 
 static char *put_text(char *to, const char *text)
 {
@@ -515,7 +541,7 @@ static char *put_condition(char *to, const struct probe *p)
 
 static size_t probes_shown(const struct bridge *b, char *out)
 {
-    char *to = out;
+    char *to = put_text(out, b->pullup ? "pull-up on\n" : "");
     for (const struct probe *p = b->probes; p < b->probes + b->count; p++) {
         to = put_byte(put_byte(put_text(to, "probe "), p->id[0]), p->id[1]);
         to = put_condition(put_text(to, ": "), p);

@@ -1,13 +1,24 @@
 -- A command given its time, from a bridge with nothing pending: the write is accepted and has its effect.
+--   pended-speed                                     accepting a 1-Wire command leaves the speed, whether or not a pull-up ends
 --   command-deviceReset, -reset, -write, -triplet    the state afterwards
 use mathlib.Core.Path.{_≡_, refl}
 use mathlib.Core.Bool.{Bool, true, false, cond}
 use mathlib.Core.List.{[], _∷_}
-use Prim.Native.Nat.{ℕ}
+use Prim.Native.Nat.{ℕ, _/_, _%_}
+use native.Mathlib.Omega.{arith}
+use Rattle.bridge.specs.declared.Registers.{Registers}
 use Rattle.bridge.specs.declared.Bridge.{Bridge}
+use Rattle.bridge.specs.declared.Pending.{Pending}
 use Rattle.bridge.specs.declared.Pending.the-variants.{Reset, WriteByte, Triplet}
-use Rattle.bridge.specs.Bridge.{busy, topBit, bytesOf, takenWhileBusy, goodParameter, writeNumber, withRegisters, afterWrite, accepted, deviceReset, pended}
+use Rattle.bridge.specs.Bridge.{speedOf, withoutSpu, busy, topBit, bytesOf, takenWhileBusy, goodParameter, writeNumber, withRegisters, afterWrite, accepted, deviceReset, pended}
 use Rattle.bridge.specs.Bridge.{finishedReset, finishedWrite, finishedTriplet, finishedOf, afterTime, command}
+
+pub pended-speed : (q : Pending) (r : Registers) → speedOf (pended q r) ≡ speedOf r
+pended-speed q r = go (r .pullup) (r .configuration)
+  where
+    go : (t : Bool) (x : ℕ) → cond t (withoutSpu x) x / 8 % 2 ≡ x / 8 % 2
+    go true x = omega arith
+    go false x = refl
 
 -- Device Reset is taken, busy or not, and drops what is pending.
 never-held : (t : Bool) → cond t false false ≡ false

@@ -1,6 +1,8 @@
--- The bridge (document 01, "The bridge" and "Numbers returned", and document 02, R-2 and R-3): its registers, and the line beside them.
+-- The bridge (document 01, "The bridge" and "Numbers returned", and document 02, R-2, R-3 and R-12): its registers, and the line beside them.
 --   powerOn               the state at power-on
 --   speedOf r             the bridge's speed
+--   isStrong x            SPU is set in the configuration x
+--   goodConfiguration x   the configuration byte x is accepted
 --   statusOf r            the status register
 --   readOf b              what a read gives
 --   accepted c x r        the registers after an accepted write of the code c and the parameter x
@@ -11,7 +13,7 @@
 --   afterWithdrawal x b   the state after withdrawing it
 --   command x b           the state after the write x and time passing
 use Prim.Native.Nat.{ℕ, _+_, _*_, _/_, _%_}
-use mathlib.Core.Bool.{Bool, true, false, cond}
+use mathlib.Core.Bool.{Bool, true, false, cond, _&&_}
 use mathlib.Core.List.{List, [], _∷_}
 use lib.Dec.{eqb}
 use lib.ListN.{length, getD}
@@ -30,7 +32,8 @@ use Rattle.bridge.specs.declared.Bridge.{Bridge}
 
 -- ---- the state
 
--- Power-on and Device Reset give RST 1, the other status bits that change 0, configuration 00h, pointer at status, nothing pending.
+-- Power-on and Device Reset give RST 1, the other status bits that change 0, configuration 00h, pointer at status, nothing pending; and no
+-- pull-up is on (document 02, R-12).
 abbrev pub cleared : ℕ → Registers
 cleared o =
     record {
@@ -39,6 +42,7 @@ cleared o =
       pointer = Status;
       readout = o;
       pending = Nothing;
+      pullup = false;
     }
 
 -- At power-on the read-data byte is 00h and no probe is fitted.
@@ -48,6 +52,10 @@ powerOn = record { registers = cleared 0; line = bare }
 -- 1WS, bit 3 of the configuration, is the bridge's speed (document 02, R-2). At power-on and after a Device Reset it is standard.
 abbrev pub speedOf : Registers → ℕ
 speedOf r = r .configuration / 8 % 2
+
+-- SPU, bit 2 of the configuration, asks for a strong pull-up (document 02, R-12).
+abbrev pub isStrong : ℕ → Bool
+isStrong x = eqb (x / 4 % 2) 1
 
 -- 1WB: a 1-Wire command is pending.
 abbrev pub isPending : Pending → Bool
@@ -86,7 +94,14 @@ deviceReset r = cleared (r .readout)
 -- The registers with another pointer and another pending command.
 abbrev pub changed : Pointer → Pending → Registers → Registers
 changed p q r =
-    record { status = r .status; configuration = r .configuration; pointer = p; readout = r .readout; pending = q }
+    record {
+      status = r .status;
+      configuration = r .configuration;
+      pointer = p;
+      readout = r .readout;
+      pending = q;
+      pullup = r .pullup;
+    }
 
 -- E1h Set Read Pointer: F0h status, E1h read data, C3h configuration.
 unfoldable pub pointerOf : ℕ → Pointer
@@ -94,6 +109,10 @@ pointerOf x = cond (eqb x 0xF0) Status (cond (eqb x 0xE1) ReadData Configuration
 
 abbrev pub setPointer : ℕ → Registers → Registers
 setPointer x r = changed (pointerOf x) (r .pending) r
+
+-- A configuration with SPU 0 ends the pull-up; one with SPU 1 leaves it (document 02, R-12).
+abbrev pub pullupUnder : ℕ → Registers → Bool
+pullupUnder x r = cond (isStrong x) (r .pullup) false
 
 -- D2h Write Configuration stores the low nibble, RST becomes 0, and the pointer goes to the configuration.
 abbrev pub configured : ℕ → Registers → Registers
@@ -105,11 +124,28 @@ configured x r =
       pointer = Configuration;
       readout = r .readout;
       pending = r .pending;
+      pullup = pullupUnder x r;
     }
+
+-- The configuration once a 1-Wire command is accepted: that ends the pull-up, with SPU cleared. SPU set with the pull-up not on stays, for
+-- it is what the command will switch on (document 02, R-12).
+abbrev pub withoutSpu : ℕ → ℕ
+withoutSpu x = x / 8 * 8 + x % 4
+
+abbrev pub keptConfiguration : Registers → ℕ
+keptConfiguration r = cond (r .pullup) (withoutSpu (r .configuration)) (r .configuration)
 
 -- The five 1-Wire commands become pending, move the pointer to status and set 1WB at once.
 abbrev pub pended : Pending → Registers → Registers
-pended p r = changed Status p r
+pended p r =
+    record {
+      status = r .status;
+      configuration = keptConfiguration r;
+      pointer = Status;
+      readout = r .readout;
+      pending = p;
+      pullup = false;
+    }
 
 -- 87h and 78h use bit 7 of their parameter.
 abbrev pub topBit : ℕ → Bool
@@ -144,12 +180,18 @@ bytesOf c =
 unfoldable pub takenWhileBusy : ℕ → Bool
 takenWhileBusy c = cond (eqb c 0xF0) true (eqb c 0xE1)
 
--- The pointer codes are F0h, E1h and C3h; the configuration bytes are F0h and E1h, and 78h and 69h, which set 1WS (document 02, R-2); any
--- other parameter will do.
+-- The pointer codes are F0h, E1h and C3h.
+unfoldable pub goodPointer : ℕ → Bool
+goodPointer x = cond (eqb x 0xF0) true (cond (eqb x 0xE1) true (eqb x 0xC3))
+
+-- In a configuration byte bit 1 is 0, and the upper nibble is the complement of the lower one: the two make Fh. APU, SPU and 1WS may be any
+-- (document 02, R-12).
+unfoldable pub goodConfiguration : ℕ → Bool
+goodConfiguration x = eqb (x / 2 % 2) 0 && eqb (x / 16 + x % 16) 15
+
+-- Any other parameter will do.
 unfoldable pub goodParameter : ℕ → ℕ → Bool
-goodParameter c x =
-    cond (eqb c 0xE1) (cond (eqb x 0xF0) true (cond (eqb x 0xE1) true (eqb x 0xC3)))
-    (cond (eqb c 0xD2) (cond (eqb x 0xF0) true (cond (eqb x 0xE1) true (cond (eqb x 0x78) true (eqb x 0x69)))) true)
+goodParameter c x = cond (eqb c 0xE1) (goodPointer x) (cond (eqb c 0xD2) (goodConfiguration x) true)
 
 -- No bytes at all: 7. Then, in this order: unknown code 5, busy 6, wrong number of bytes 7, bad parameter 8.
 unfoldable pub writeNumber : List ℕ → Bridge → ℕ
@@ -172,10 +214,29 @@ afterWrite x b =
 
 -- Slots and resets come at the bridge's speed.
 
+-- A Write Byte or Single Bit that finishes with SPU set switches the pull-up on; the others switch nothing on (document 02, R-12).
+abbrev pub switchesOn : Pending → Bool
+switchesOn Nothing = false
+switchesOn Reset = false
+switchesOn (SingleBit w) = true
+switchesOn (WriteByte x) = true
+switchesOn ReadByte = false
+switchesOn (Triplet d) = false
+
+abbrev pub pullupAfter : Registers → Bool
+pullupAfter r = cond (switchesOn (r .pending)) (cond (isStrong (r .configuration)) true (r .pullup)) (r .pullup)
+
 -- What a finished command leaves: nothing pending, and pointer and configuration as they were.
 abbrev pub finished : StatusBits → ℕ → Registers → Registers
 finished s o r =
-    record { status = s; configuration = r .configuration; pointer = r .pointer; readout = o; pending = Nothing }
+    record {
+      status = s;
+      configuration = r .configuration;
+      pointer = r .pointer;
+      readout = o;
+      pending = Nothing;
+      pullup = pullupAfter r;
+    }
 
 -- Status bits of which PPD is another, and those of which DIR, TSB and SBR are; RST stays.
 abbrev pub withPresence : Bool → StatusBits → StatusBits

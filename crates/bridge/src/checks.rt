@@ -9,7 +9,7 @@ use crate::Registers;
 use line::DONE;
 ghost use mathlib.Core.Path.{_≡_};
 ghost use mathlib.Core.Bool.{cond, true, false};
-ghost use Rattle.bridge.specs.Bridge.{isPending, bytesOf, takenWhileBusy, goodParameter, writeNumber};
+ghost use Rattle.bridge.specs.Bridge.{isPending, bytesOf, takenWhileBusy, goodPointer, goodConfiguration, goodParameter, writeNumber};
 
 // How many bytes the command has in all; 0 for a code that is unknown.
 fn bytes_of(code: u8) -> usize
@@ -39,7 +39,7 @@ fn taken_while_busy(code: u8) -> bool
 }
 
 fn good_pointer(x: u8) -> bool
-    ensures { λ r. ⌜ r ≡ goodParameter 0xE1 x ⌝ }
+    ensures { λ r. ⌜ r ≡ goodPointer x ⌝ }
 {
     match x {
         Bridge::POINTER_STATUS => true,
@@ -49,15 +49,14 @@ fn good_pointer(x: u8) -> bool
     }
 }
 
+// Bit 1 is 0, and the upper nibble is the complement of the lower one.
 fn good_configuration(x: u8) -> bool
-    ensures { λ r. ⌜ r ≡ goodParameter 0xD2 x ⌝ }
+    ensures { λ r. ⌜ r ≡ goodConfiguration x ⌝ }
 {
-    match x {
-        Bridge::PULL_UP_PASSIVE => true,
-        Bridge::PULL_UP_ACTIVE => true,
-        Bridge::OVERDRIVE_PASSIVE => true,
-        Bridge::OVERDRIVE_ACTIVE => true,
-        _ => false,
+    if x / 2 % 2 == 0 {
+        x / 16 + x % 16 == 15
+    } else {
+        false
     }
 }
 

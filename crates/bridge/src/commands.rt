@@ -4,9 +4,10 @@ use crate::Pending;
 use crate::Pointer;
 use crate::Registers;
 use crate::StatusBits;
+use crate::strong;
 ghost use mathlib.Core.Path.{_≡_};
 ghost use Rattle.bridge.specs.Bridge.{cleared as clearedBut, changed as changedTo, setPointer, configured as configuredTo};
-ghost use Rattle.bridge.specs.Bridge.{pended as pendedOf, topBit, pointerOf, accepted as acceptedAs};
+ghost use Rattle.bridge.specs.Bridge.{pullupUnder, keptConfiguration, pended as pendedOf, topBit, pointerOf, accepted as acceptedAs};
 
 fn top_bit(x: u8) -> bool
     ensures { λ r. ⌜ r ≡ topBit x ⌝ }
@@ -41,6 +42,7 @@ impl Registers {
             pointer: Pointer::Status,
             readout,
             pending: Pending::Nothing,
+            pullup: false,
         }
     }
 
@@ -55,6 +57,7 @@ impl Registers {
             pointer,
             readout: self.readout,
             pending,
+            pullup: self.pullup,
         }
     }
 
@@ -65,20 +68,43 @@ impl Registers {
         self.changed(pointed(x), pending)
     }
 
+    // Whether the pull-up is on under a new configuration: SPU 0 ends it.
+    fn pullup_under(self, x: u8) -> bool
+        ensures { λ r. ⌜ r ≡ pullupUnder x self ⌝ }
+    {
+        if strong(x) { self.pullup } else { false }
+    }
+
     fn configured(mut self, x: u8) -> Registers
         ensures { λ r. ⌜ r ≡ configuredTo x self ⌝ }
     {
         let mut status = self.status;
         status.rst = false;
         self.status = status;
+        let on = self.pullup_under(x);
+        self.pullup = on;
         self.configuration = x % 16;
         let pending = self.pending;
         self.changed(Pointer::Configuration, pending)
     }
 
-    fn pended(self, pending: Pending) -> Registers
+    // The pull-up ends, and SPU is cleared with it. Where it is not on, SPU is what the command will switch on.
+    fn kept_configuration(self) -> u8
+        ensures { λ r. ⌜ r ≡ keptConfiguration self ⌝ }
+    {
+        if self.pullup {
+            self.configuration / 8 * 8 + self.configuration % 4
+        } else {
+            self.configuration
+        }
+    }
+
+    fn pended(mut self, pending: Pending) -> Registers
         ensures { λ r. ⌜ r ≡ pendedOf pending self ⌝ }
     {
+        let kept = self.kept_configuration();
+        self.configuration = kept;
+        self.pullup = false;
         self.changed(Pointer::Status, pending)
     }
 

@@ -1,4 +1,4 @@
-// The bridge: one DS2482-101 and the line behind it (document 01, "The bridge", and document 02, R-2 and R-3).
+// The bridge: one DS2482-101 and the line behind it (document 01, "The bridge", and document 02, R-2, R-3 and R-12).
 //
 // A write is checked; one that is accepted has its effect; a 1-Wire command becomes pending and has its effect when time passes; a read
 // gives the register under the read pointer. Bad input is refused by number and changes nothing.
@@ -16,7 +16,7 @@ ghost use Prim.Native.Nat.{_*_, _≤_};
 ghost use Rattle.probe.specs.Probe.{digit};
 ghost use Rattle.line.specs.Line.{fitNumber};
 ghost use Rattle.withdrawal.specs.Withdrawal.{withdrawNumber};
-ghost use Rattle.bridge.specs.Bridge.{powerOn, speedOf, statusOf, readOf, writeNumber, afterWrite, afterTime};
+ghost use Rattle.bridge.specs.Bridge.{powerOn, speedOf, isStrong, statusOf, readOf, writeNumber, afterWrite, afterTime};
 ghost use Rattle.bridge.specs.Bridge.{afterFitting, afterWithdrawal};
 
 // The refusals of a write, by their numbers in the table of document 01.
@@ -60,6 +60,8 @@ pub struct Registers {
     pub pointer: Pointer,
     pub readout: u8,
     pub pending: Pending,
+    // The strong pull-up is on.
+    pub pullup: bool,
 }
 
 pub struct Bridge {
@@ -78,6 +80,13 @@ fn weighed(bit: bool, weight: u8) -> u8
     ensures { λ r. ⌜ (r ≡ digit bit * weight) × (r ≤ weight) ⌝ }
 {
     if bit { weight } else { 0 }
+}
+
+// SPU is set in a configuration.
+fn strong(x: u8) -> bool
+    ensures { λ r. ⌜ r ≡ isStrong x ⌝ }
+{
+    x / 4 % 2 == 1
 }
 
 impl Registers {
@@ -127,16 +136,6 @@ impl Bridge {
     pub const POINTER_READ_DATA: u8 = 0xE1;
 
     pub const POINTER_CONFIGURATION: u8 = 0xC3;
-
-    // The configuration bytes: active pull-up off and on, at standard speed and at overdrive. The upper nibble is the complement of the
-    // lower one, which is stored.
-    pub const PULL_UP_PASSIVE: u8 = 0xF0;
-
-    pub const PULL_UP_ACTIVE: u8 = 0xE1;
-
-    pub const OVERDRIVE_PASSIVE: u8 = 0x78;
-
-    pub const OVERDRIVE_ACTIVE: u8 = 0x69;
 
     // The state at power-on: no probe is fitted and the status reads 18h.
     pub fn power_on() -> Bridge

@@ -3,8 +3,9 @@ use crate::Bridge;
 use crate::Pending;
 use crate::Registers;
 use crate::StatusBits;
+use crate::strong;
 ghost use mathlib.Core.Path.{_≡_};
-ghost use Rattle.bridge.specs.Bridge.{finished as finishedWith, finishedReset, finishedBit, finishedTriplet};
+ghost use Rattle.bridge.specs.Bridge.{switchesOn, pullupAfter, finished as finishedWith, finishedReset, finishedBit, finishedTriplet};
 ghost use Rattle.bridge.specs.Eight.{byteOf, readDataOf, finishedByte};
 
 impl Registers {
@@ -38,6 +39,35 @@ impl Registers {
         }
     }
 
+    // The command is one that is over with the pull-up on, where SPU is set.
+    fn switches_on(self) -> bool
+        ensures { λ r. ⌜ r ≡ switchesOn (self .pending) ⌝ }
+    {
+        let pending = self.pending;
+        match pending {
+            Pending::Nothing => false,
+            Pending::Reset => false,
+            Pending::SingleBit { bit: _ } => true,
+            Pending::WriteByte { byte: _ } => true,
+            Pending::ReadByte => false,
+            Pending::Triplet { direction: _ } => false,
+        }
+    }
+
+    fn pullup_after(self) -> bool
+        ensures { λ r. ⌜ r ≡ pullupAfter self ⌝ }
+    {
+        if self.switches_on() {
+            if strong(self.configuration) {
+                true
+            } else {
+                self.pullup
+            }
+        } else {
+            self.pullup
+        }
+    }
+
     // The command is over: nothing is pending.
     fn finished(self, status: StatusBits, readout: u8) -> Registers
         ensures { λ r. ⌜ r ≡ finishedWith status readout self ⌝ }
@@ -49,6 +79,7 @@ impl Registers {
             pointer,
             readout,
             pending: Pending::Nothing,
+            pullup: self.pullup_after(),
         }
     }
 }

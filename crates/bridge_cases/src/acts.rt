@@ -179,7 +179,7 @@ fn more(bridge: Bridge, letter: u8) -> Bridge {
         b'g' => receive(bridge),
         b'd' => pass(bridge),
         b'f' => fit_63(bridge),
-        b'p' => show::probes(bridge),
+        b'p' => show::fields(bridge),
         _ => bridge,
     }
 }

@@ -7,12 +7,13 @@
 //     i   the probe of that ID is fitted;  a, b, c   the one of the ID A, B or C there
 //     o   the probe of that ID is taken off the line
 //     s   after a 1-Wire reset they go out on the line, each by Write Byte and with its time
-//     r   a read      t   time passes      p   the probes, as the fields of the line have them
+//     r   a read      t   time passes
+//     p   the strong pull-up where it is on, and the probes, as the fields of the bridge have them
 //     g   eight bytes come in from the line: Read Byte, its time, and what the read-data register holds
 //     d   64 triplets with the direction 0, each with its time
 //     f   63 probes are fitted
 //
-// Each line of the output is a title, an act or a probe.
+// Each line of the output is a title, an act, the pull-up or a probe.
 mod acts;
 mod hex;
 mod say;

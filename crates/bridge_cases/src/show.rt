@@ -1,4 +1,4 @@
-// The probes, as the fields of the bridge's line have them.
+// The strong pull-up and the probes, as the fields of the bridge have them.
 use crate::say;
 use bridge::Bridge;
 use line::Line;
@@ -86,7 +86,7 @@ fn probe(line: Line, i: usize) {
 }
 
 // The fitted probes, in their places.
-pub(crate) fn probes(bridge: Bridge) -> Bridge {
+fn probes(bridge: Bridge) -> Bridge {
     let line = bridge.line;
     let mut i: usize = 0;
     while i < 64 {
@@ -94,4 +94,17 @@ pub(crate) fn probes(bridge: Bridge) -> Bridge {
         i += 1;
     }
     bridge
+}
+
+fn pullup(bridge: Bridge) {
+    let r = bridge.registers;
+    if r.pullup {
+        say::text(b"pull-up on\n");
+    }
+}
+
+// The strong pull-up where it is on, since no register has it, and then the probes.
+pub(crate) fn fields(bridge: Bridge) -> Bridge {
+    pullup(bridge);
+    probes(bridge)
 }

@@ -14,9 +14,9 @@ use Rattle.line.specs.declared.Line.{Line}
 use Rattle.line.specs.Line.{fitted, idOf, onFitted, level, slot, slots, afterReset}
 use Rattle.line.proofs.Each.{fitted-onFitted}
 use Rattle.bridge.specs.declared.Bridge.{Bridge}
-use Rattle.bridge.specs.declared.Pending.the-variants.{Nothing}
+use Rattle.bridge.specs.declared.Pending.the-variants.{Nothing, Reset}
 use Rattle.bridge.specs.Bridge.{isPending, speedOf, finishedReset, finishedWrite, command}
-use Rattle.bridge.proofs.Effects.{command-reset, command-write}
+use Rattle.bridge.proofs.Effects.{pended-speed, command-reset, command-write}
 use Rattle.enumeration.specs.Order.{Among}
 use Rattle.searching.proofs.Holds.{took-id, reset-id}
 use Rattle.demand.specs.Demand.{afterResume}
@@ -53,4 +53,5 @@ module _ (i : ℕ) where
   new-resumed s idle other h =
       subst⁻¹ (λ (b : Bridge). New i (b .line)) (command-write (command (0xB4 ∷ []) s) (ap isPending (reset-done s idle)) 0xA5)
       (new-slots _ 8 0xA5 (command (0xB4 ∷ []) s .line)
-      (subst⁻¹ (λ (b : Bridge). New i (b .line)) (command-reset s (ap isPending idle)) (new-reset (speedOf (s .registers)) other (s .line) h)))
+      (subst⁻¹ (λ (b : Bridge). New i (b .line)) (command-reset s (ap isPending idle))
+      (new-reset _ (ap (λ (v : ℕ). eqb v standard) (pended-speed Reset (s .registers)) ∙ other) (s .line) h)))

@@ -76,7 +76,7 @@ same-bytes x y a b m n e =
 -- ---- fitting
 
 -- an accepted ID is new and right by itself, and there is room for it
-pub accepted : (x : List ℕ) (l : Line) → fitNumber x l ≡ 0 → (isFitted (numberOf x) l ≡ false) × (l .count < 64) × (refusalOf x ≡ 0)
+accepted : (x : List ℕ) (l : Line) → fitNumber x l ≡ 0 → (isFitted (numberOf x) l ≡ false) × (l .count < 64) × (refusalOf x ≡ 0)
 unfolding fitNumber placeNumber
 accepted x l = go (eqb (refusalOf x) 0) refl (isFitted (numberOf x) l) (leb 64 (l .count)) refl
   where
@@ -218,7 +218,7 @@ holds-without i l w =
       same = ids;
     }
 
-pub kept-without : (i : ℕ) {l : Line} → Kept l → isFitted i l ≡ true → Kept (without i l)
+kept-without : (i : ℕ) {l : Line} → Kept l → isFitted i l ≡ true → Kept (without i l)
 kept-without i {l} k e =
     let w = withdrawn-of i l (subst⁻¹ Distinct (holds-ids (k .holds)) (k .distinct)) e in
     let split : k .ids ≡ w .front ++ i ∷ w .back = sym (holds-ids (k .holds)) ∙ w .before in

@@ -12,7 +12,7 @@ use Rattle.triplet_slots.specs.Triplet.{chosen}
 use Rattle.bridge.specs.declared.Bridge.{Bridge}
 use Rattle.bridge.specs.declared.Pending.the-variants.{Reset, Triplet}
 use Rattle.bridge.specs.declared.Pointer.the-variants.{Status}
-use Rattle.bridge.specs.Bridge.{powerOn, statusOf, readOf, busy, bytesOf, goodParameter, writeNumber, afterWrite, accepted, finishedReset, finishedTriplet, finishedOf, afterTime}
+use Rattle.bridge.specs.Bridge.{powerOn, statusOf, readOf, busy, bytesOf, goodConfiguration, goodParameter, writeNumber, afterWrite, accepted, finishedReset, finishedTriplet, finishedOf, afterTime}
 use Rattle.bridge.specs.Reached.{Bytes, Reached}
 use Rattle.bridge.specs.Reached.Reached.{on, write}
 use Rattle.packet.specs.Request.{Request, read, bodyOf, invertedOf, sealOf, packetOf}
@@ -47,7 +47,7 @@ status-fixed v h =
 
 -- a configuration that is written clears RST
 pub write-lazy : ((x : List ℕ) → Bytes x → (s : Bridge) → Reached s → afterWrite x s ≡ s) → ⊥
-unfolding afterWrite writeNumber bytesOf powerOn goodParameter accepted
+unfolding afterWrite writeNumber bytesOf powerOn goodConfiguration goodParameter accepted
 write-lazy h =
     false≢true
     (ap (λ (s : Bridge). s .registers .status .rst) (h (0xD2 ∷ 0xF0 ∷ []) (bytes-two 0xD2 0xF0 (lit< tt) (lit< tt)) powerOn on))

@@ -118,3 +118,15 @@ pub(crate) fn of_both_speeds(first: &[u8; 8], second: &[u8; 8], third: &[u8; 8])
 pub(crate) fn reset_at_overdrive(bridge: Bridge) -> Bridge {
     pass::command(quick(bridge), b"\xB4")
 }
+
+// ---- the strong pull-up
+
+// Skip ROM, SPU, and then a byte that is pending and will switch the pull-up on.
+pub(crate) fn with_pullup_due(bridge: Bridge) -> Bridge {
+    let strong = pass::command(skipped(bridge), b"\xD2\xB4");
+    strong.write(b"\xA5\x44").bridge
+}
+
+pub(crate) fn with_pullup(bridge: Bridge) -> Bridge {
+    with_pullup_due(bridge).wait()
+}

@@ -185,6 +185,20 @@ fn overdrive() {
     );
 }
 
+// The Device Reset of a search ends the strong pull-up, or drops what would switch it on; b = 0 issues none (document 02, R-12).
+fn pullup() {
+    let bridge = lines::of_three(&A, &B, &C);
+    let on = lines::with_pullup(bridge);
+    show::search(b"the strong pull-up on", on, 3);
+    show::search(
+        b"SPU set and a Write Byte pending",
+        lines::with_pullup_due(bridge),
+        3,
+    );
+    show::pullup(b"the strong pull-up on, after b = 3", show::found(on, 3));
+    show::pullup(b"the strong pull-up on, after b = 0", show::found(on, 0));
+}
+
 fn main() {
     paper();
     full();
@@ -197,4 +211,5 @@ fn main() {
     fewer();
     swapped();
     overdrive();
+    pullup();
 }

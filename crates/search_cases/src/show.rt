@@ -203,6 +203,16 @@ pub(crate) fn presence(title: &[u8], bridge: Bridge) {
     say::text(b"\n");
 }
 
+pub(crate) fn pullup(title: &[u8], bridge: Bridge) {
+    say::text(title);
+    let r = bridge.registers;
+    if r.pullup {
+        say::text(b": it is on\n");
+    } else {
+        say::text(b": it is off\n");
+    }
+}
+
 // The bridge after a search, of which nothing is printed.
 pub(crate) fn found(bridge: Bridge, b: u16) -> Bridge {
     let mut list = blank();

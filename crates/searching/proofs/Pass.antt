@@ -21,8 +21,8 @@ use Rattle.line.specs.declared.Line.{Line}
 use Rattle.line.specs.Line.{level, slot, idOf, afterReset, present, slots}
 use Rattle.triplet_slots.specs.Triplet.{chosen, firstLevel, secondLevel, writtenBit}
 use Rattle.bridge.specs.declared.Bridge.{Bridge}
-use Rattle.bridge.specs.declared.Pending.the-variants.{Nothing, WriteByte, Triplet}
-use Rattle.bridge.proofs.Effects.{command-reset, command-write, command-triplet}
+use Rattle.bridge.specs.declared.Pending.the-variants.{Nothing, Reset, WriteByte, Triplet}
+use Rattle.bridge.proofs.Effects.{pended-speed, command-reset, command-write, command-triplet}
 use Rattle.bridge.specs.Bridge.{isPending, busy, speedOf, pended, withRegisters, finishedReset, finishedWrite, finishedTriplet, command}
 use Rattle.pass.specs.declared.Conflict.{Conflict}
 use Rattle.pass.specs.declared.Conflict.the-variants.{Nowhere, At}
@@ -68,17 +68,24 @@ module _ (ids : List ℕ) (rest : Rest) (d : ℕ → Bool) (k a : ℕ) (within :
   after : Bridge
   after = finishedTriplet (d k) (withRegisters (pended (Triplet (d k)) (b .registers)) b)
 
+  -- the speed of its slots
+  abbrev speed-now : ℕ
+  speed-now = speedOf (pended (Triplet (d k)) (b .registers))
+
+  triplet-speed : speed-now ≡ standard
+  triplet-speed = pended-speed (Triplet (d k)) (b .registers) ∙ speed
+
   triplet-sbr : after .registers .status .sbr ≡ not (has ids (suc k) (child false k a))
   unfolding after finishedTriplet
-  triplet-sbr = ap₂ firstLevel speed line ∙ first-level k a below ids rest within
+  triplet-sbr = ap₂ firstLevel triplet-speed line ∙ first-level k a below ids rest within
 
   -- the line after the first slot
-  first-line : slot (speedOf (b .registers)) true (b .line) ≡ lineOf (map (stand Second k a) ids) rest
-  first-line = ap₂ (λ (v : ℕ) (l : Line). slot v true l) speed line ∙ first-slot k a below ids rest within
+  first-line : slot speed-now true (b .line) ≡ lineOf (map (stand Second k a) ids) rest
+  first-line = ap₂ (λ (v : ℕ) (l : Line). slot v true l) triplet-speed line ∙ first-slot k a below ids rest within
 
   triplet-tsb : after .registers .status .tsb ≡ not (has ids (suc k) (child true k a))
   unfolding after finishedTriplet
-  triplet-tsb = ap₂ (λ (v : ℕ) (l : Line). level v true l) speed first-line ∙ second-level k a below ids rest
+  triplet-tsb = ap₂ (λ (v : ℕ) (l : Line). level v true l) triplet-speed first-line ∙ second-level k a below ids rest
 
   triplet-dir : after .registers .status .dir ≡ branch (has ids) d k a
   unfolding after finishedTriplet
@@ -87,8 +94,8 @@ module _ (ids : List ℕ) (rest : Rest) (d : ℕ → Bool) (k a : ℕ) (within :
   triplet-line : after .line ≡ lineOf (map (standing (suc k) (child (branch (has ids) d k a) k a)) ids) rest
   unfolding after finishedTriplet
   triplet-line =
-      ap₂ (λ (w : Bool) (l : Line). slot (speedOf (b .registers)) w (slot (speedOf (b .registers)) true l)) triplet-dir first-line
-      ∙ ap (λ (v : ℕ). slot v (branch (has ids) d k a) (slot v true (lineOf (map (stand Second k a) ids) rest))) speed
+      ap₂ (λ (w : Bool) (l : Line). slot speed-now w (slot speed-now true l)) triplet-dir first-line
+      ∙ ap (λ (v : ℕ). slot v (branch (has ids) d k a) (slot v true (lineOf (map (stand Second k a) ids) rest))) triplet-speed
       ∙ ap (slot standard (branch (has ids) d k a)) (second-slot k a below ids rest)
       ∙ third-slot k a below ids rest (branch (has ids) d k a)
 
@@ -139,7 +146,7 @@ module _ (ids : List ℕ) (rest : Rest) (i : ℕ) (c : Conflict) where
         record {
           line = triplet-line ids rest (direction i c) k a within below (w .bridge) (u .line) (u .speed);
           idle = refl;
-          speed = u .speed;
+          speed = triplet-speed ids rest (direction i c) k a within below (w .bridge) (u .line) (u .speed);
           path =
               ap₂ (λ (x : ℕ) (t : Bool). x + digit t * 2 ^ k) (u .path)
               (triplet-dir ids rest (direction i c) k a within below (w .bridge) (u .line) (u .speed))
@@ -211,13 +218,16 @@ module _ (ids : List ℕ) (rest : Rest) (i : ℕ) (c : Conflict) where
 pub reset-ppd : (b : Bridge) → b .registers .pending ≡ Nothing → speedOf (b .registers) ≡ standard → command (0xB4 ∷ []) b .registers .status .ppd ≡ ltb 0 (b .line .count)
 unfolding finishedReset present
 reset-ppd b idle speed =
-    ap (λ (r : Bridge). r .registers .status .ppd) (command-reset b (free b idle)) ∙ ap (λ (v : ℕ). present v (b .line)) speed
+    ap (λ (r : Bridge). r .registers .status .ppd) (command-reset b (free b idle))
+    ∙ ap (λ (v : ℕ). present v (b .line)) (pended-speed Reset (b .registers) ∙ speed)
 
 module _ (b : Bridge) (ps : List Probe) (rest : Rest) (line : b .line ≡ lineOf ps rest) (idle : b .registers .pending ≡ Nothing) (speed : speedOf (b .registers) ≡ standard) where
   reset-line : command (0xB4 ∷ []) b .line ≡ lineOf (map (reset standard) ps) rest
   unfolding finishedReset
   reset-line =
-      ap (λ (r : Bridge). r .line) (command-reset b (free b idle)) ∙ ap₂ afterReset speed line ∙ afterReset-lineOf ps rest
+      ap (λ (r : Bridge). r .line) (command-reset b (free b idle))
+      ∙ ap₂ afterReset (pended-speed Reset (b .registers) ∙ speed) line
+      ∙ afterReset-lineOf ps rest
 
   reset-idle : command (0xB4 ∷ []) b .registers .pending ≡ Nothing
   unfolding finishedReset
@@ -225,17 +235,23 @@ module _ (b : Bridge) (ps : List Probe) (rest : Rest) (line : b .line ≡ lineOf
 
   reset-speed : speedOf (command (0xB4 ∷ []) b .registers) ≡ standard
   unfolding finishedReset
-  reset-speed = ap (λ (r : Bridge). speedOf (r .registers)) (command-reset b (free b idle)) ∙ speed
+  reset-speed =
+      ap (λ (r : Bridge). speedOf (r .registers)) (command-reset b (free b idle)) ∙ pended-speed Reset (b .registers) ∙ speed
 
   -- the byte written after the reset
   written : (x : ℕ) → command (0xA5 ∷ x ∷ []) (command (0xB4 ∷ []) b) ≡ finishedWrite x (withRegisters (pended (WriteByte x) (command (0xB4 ∷ []) b .registers)) (command (0xB4 ∷ []) b))
   written x = command-write (command (0xB4 ∷ []) b) (free (command (0xB4 ∷ []) b) reset-idle) x
 
+  written-speed : (x : ℕ) → speedOf (pended (WriteByte x) (command (0xB4 ∷ []) b .registers)) ≡ standard
+  written-speed x = pended-speed (WriteByte x) (command (0xB4 ∷ []) b .registers) ∙ reset-speed
+
   -- all probes obey it, at standard speed
   pub commanded-line : (x : ℕ) → command (0xA5 ∷ x ∷ []) (command (0xB4 ∷ []) b) .line ≡ lineOf (map (commanded (gathered 8 x 0)) ps) rest
   unfolding finishedWrite
   commanded-line x =
-      ap (λ (r : Bridge). r .line) (written x) ∙ ap₂ (λ (v : ℕ) (l : Line). slots v 8 x l) reset-speed reset-line ∙ slots-reset x ps rest
+      ap (λ (r : Bridge). r .line) (written x)
+      ∙ ap₂ (λ (v : ℕ) (l : Line). slots v 8 x l) (written-speed x) reset-line
+      ∙ slots-reset x ps rest
 
   commanded-idle : (x : ℕ) → command (0xA5 ∷ x ∷ []) (command (0xB4 ∷ []) b) .registers .pending ≡ Nothing
   unfolding finishedWrite
@@ -243,7 +259,7 @@ module _ (b : Bridge) (ps : List Probe) (rest : Rest) (line : b .line ≡ lineOf
 
   commanded-speed : (x : ℕ) → speedOf (command (0xA5 ∷ x ∷ []) (command (0xB4 ∷ []) b) .registers) ≡ standard
   unfolding finishedWrite
-  commanded-speed x = ap (λ (r : Bridge). speedOf (r .registers)) (written x) ∙ reset-speed
+  commanded-speed x = ap (λ (r : Bridge). speedOf (r .registers)) (written x) ∙ written-speed x
 
 -- ---- a pass
 

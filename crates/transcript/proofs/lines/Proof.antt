@@ -1,7 +1,7 @@
 -- `transcript::lines` meets its contract: each turn runs one event, and the lines left to print bring the buffer to what is promised.
 use mathlib.Core.List.{List}
 use mathlib.Core.Path.{_≡_, refl, sym, ap, subst, _∙_}
-use Prim.Native.Nat.{ℕ, _+_, _-_, _*_, _≤_}
+use Prim.Native.Nat.{ℕ, _+_, _-_, _*_, _≤_, _<_}
 use native.Mathlib.Omega.{arith}
 use lib.ListN.{length}
 use borrow.Author.Needs.{needs}
@@ -21,6 +21,10 @@ Inv-loop script out₀ count bridge₀ number₀ place₀ at₀ out bridge numbe
 
 abbrev μ-loop : tie.MeasureT-loop
 μ-loop script out₀ count bridge₀ number₀ place₀ at₀ out bridge number place at = count + 1 - number
+
+-- a turn leaves fewer events; behind a wait the state is larger than omega computes
+fewer-left : (n k : ℕ) → k ≤ n → n + 1 - (k + 1) < n + 1 - k
+fewer-left n k h = omega arith
 
 -- where a turn has read its event
 abbrev Z : Type 0
@@ -157,7 +161,11 @@ wait-requires : tie.Need-wait-requires Inv-loop μ-loop
 wait-requires c κs = tt
 
 loop-less-4 : tie.Need-loop-less-4 Inv-loop μ-loop
-loop-less-4 c = omega arith
+loop-less-4 c =
+    let z = c .before .before .before .before .before .before .before .before in
+    fewer-left (z .before .before .before .before .before .before .before .before .before .before .count-of .result)
+    (z .before .before .before .before .before .before .before .before .loop .number)
+    (z .before .before .before .before .before .before .before .loop-test .taken)
 
 loop-again-4 : tie.Need-loop-again-4 Inv-loop μ-loop
 loop-again-4 c =
