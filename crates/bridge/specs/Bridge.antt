@@ -1,4 +1,4 @@
--- The bridge (document 01, "The bridge" and "Numbers returned", and document 02, R-2, R-3 and R-12): its registers, and the line beside them.
+-- The bridge (document 01, "The bridge" and "Numbers returned", document 02, R-2, R-3 and R-12): its registers, and the line beside them.
 --   powerOn               the state at power-on
 --   speedOf r             the bridge's speed
 --   isStrong x            SPU is set in the configuration x
@@ -127,15 +127,16 @@ configured x r =
       pullup = pullupUnder x r;
     }
 
--- The configuration once a 1-Wire command is accepted: that ends the pull-up, with SPU cleared. SPU set with the pull-up not on stays, for
--- it is what the command will switch on (document 02, R-12).
+-- SPU cleared: the bits above it and those below it stay.
 abbrev pub withoutSpu : ℕ → ℕ
 withoutSpu x = x / 8 * 8 + x % 4
 
+-- A 1-Wire command that is accepted ends the pull-up, with SPU cleared. SPU set with the pull-up not on stays, for it is what the command
+-- will switch on (document 02, R-12).
 abbrev pub keptConfiguration : Registers → ℕ
 keptConfiguration r = cond (r .pullup) (withoutSpu (r .configuration)) (r .configuration)
 
--- The five 1-Wire commands become pending, move the pointer to status and set 1WB at once.
+-- The five 1-Wire commands become pending, move the pointer to status, set 1WB at once and end the pull-up.
 abbrev pub pended : Pending → Registers → Registers
 pended p r =
     record {
@@ -214,7 +215,7 @@ afterWrite x b =
 
 -- Slots and resets come at the bridge's speed.
 
--- A Write Byte or Single Bit that finishes with SPU set switches the pull-up on; the others switch nothing on (document 02, R-12).
+-- Of the commands, Write Byte and Single Bit may switch the pull-up on (document 02, R-12).
 abbrev pub switchesOn : Pending → Bool
 switchesOn Nothing = false
 switchesOn Reset = false
@@ -223,10 +224,11 @@ switchesOn (WriteByte x) = true
 switchesOn ReadByte = false
 switchesOn (Triplet d) = false
 
+-- It becomes on when one of these finishes with SPU set.
 abbrev pub pullupAfter : Registers → Bool
 pullupAfter r = cond (switchesOn (r .pending)) (cond (isStrong (r .configuration)) true (r .pullup)) (r .pullup)
 
--- What a finished command leaves: nothing pending, and pointer and configuration as they were.
+-- What a finished command leaves: nothing pending, the pull-up on or not, and pointer and configuration as they were.
 abbrev pub finished : StatusBits → ℕ → Registers → Registers
 finished s o r =
     record {

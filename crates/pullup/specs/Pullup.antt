@@ -32,7 +32,7 @@ nibble a p w = digit a + digit p * 4 + digit w * 8
 abbrev pub byte : Bool → Bool → Bool → ℕ
 byte a p w = (15 - nibble a p w) * 16 + nibble a p w
 
--- By APU, then SPU, then 1WS.
+-- In the order of their nibbles.
 abbrev pub eightBytes : List ℕ
 eightBytes = 0xF0 ∷ 0xE1 ∷ 0xB4 ∷ 0xA5 ∷ 0x78 ∷ 0x69 ∷ 0x3C ∷ 0x2D ∷ []
 
@@ -73,7 +73,8 @@ pub record PullUp (s : Bridge) : Type 0 where
   -- While the pull-up is on, SPU is set and nothing is pending.
   pub strong : isOn s ≡ true → spuAt s ≡ true
   pub idle : isOn s ≡ true → s .registers .pending ≡ Nothing
-  -- It is on after a Write Byte or a Single Bit that finishes with SPU set, and not after any other command.
+  -- It is on after a Write Byte or a Single Bit that finishes with SPU set, and not after any other command; with nothing pending, time
+  -- changes nothing.
   pub time : isOn (afterTime s) ≡ cond (busy s) (switchesOn (s .registers .pending) && spuAt s) (isOn s)
   -- A 1-Wire command that is accepted ends it; SPU is cleared where it was on, and else stays.
   pub ends : (x : List ℕ) → writeNumber x s ≡ 0 → oneWire (getD x 0 0) ≡ true → isOn (afterWrite x s) ≡ false

@@ -1,6 +1,6 @@
 -- A pass ends where the enumeration says, notes the last conflict that it says, and shows levels 1,1 after none of its triplets.
 --   triplet-sbr .. triplet-line       what the bridge shows after the triplet of bit k, and its line
---   tripled-on, walked-on             a pass on the path a before bit k is on the path with the bit taken before the next; and so on to bit 64
+--   tripled-on, walked-on             a pass on the path a before bit k is on the path with the bit taken before the next; so on to bit 64
 --   tripled-heard, walked-heard       after such a triplet one of its levels is 0
 --   reset-ppd, reset-line, reset-idle a 1-Wire Reset
 --   commanded-line, commanded-idle    a 1-Wire Reset and a Write Byte
