@@ -1,14 +1,14 @@
 -- Which configuration bytes are accepted: one rule over the three bits, carried to every byte.
 --   digit-le            a bit is 0 or 1
+--   good-stored         what is stored of a good byte: the nibble of its three bits
 --   configurations      the rule
---   good-parameter      an accepted write of a configuration has a good byte
 use mathlib.Core.Path.{_≡_, refl, sym, ap, ap₂, _∙_}
 use mathlib.Core.Bool.{Bool, true, false, cond, _&&_, and-eq-true-iff, false≢true}
 use mathlib.Core.List.{List, [], _∷_}
-use mathlib.Core.Logic.{_⊎_, inl, inr}
+use mathlib.Core.Logic.{inl, inr}
 use Prim.Native.Nat.{ℕ, _+_, _*_, _-_, _/_, _%_, _≤_}
 use native.Mathlib.Omega.{arith}
-use borrow.Author.Tests.{eqb-true, eqb-false, eq-eqb, ne-eqb}
+use borrow.Author.Tests.{eqb-true, eqb-false, eq-eqb}
 use lib.Dec.{eqb, lit≤}
 use Rattle.probe.specs.Probe.{digit}
 use Rattle.line.specs.Line.{any, all}

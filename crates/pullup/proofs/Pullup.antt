@@ -3,11 +3,11 @@
 --   reached-fine    so it is in every state that calls reach
 --   pull-up         the sentences of R-12
 use mathlib.Core.Path.{_≡_, refl, sym, ap, ap₂, subst⁻¹, _∙_}
-use mathlib.Core.Bool.{Bool, true, false, cond, _&&_, false≢true, true≢false}
+use mathlib.Core.Bool.{Bool, true, false, cond, _&&_, false≢true}
 use mathlib.Core.List.{List, [], _∷_}
 use Prim.Native.Nat.{ℕ, _+_, _*_, _/_, _%_, _≤_}
 use native.Mathlib.Omega.{arith}
-use borrow.Author.Tests.{eqb-true, eqb-false, eq-eqb, ne-eqb}
+use borrow.Author.Tests.{eqb-true}
 use lib.Dec.{eqb}
 use lib.ListN.{length, getD}
 use Rattle.probe.specs.Probe.{digit}
@@ -17,13 +17,13 @@ use Rattle.bridge.specs.declared.Registers.{Registers}
 use Rattle.bridge.specs.declared.StatusBits.{StatusBits}
 use Rattle.bridge.specs.declared.Pending.{Pending}
 use Rattle.bridge.specs.declared.Pending.the-variants.{Nothing, Reset, SingleBit, WriteByte, ReadByte, Triplet}
-use Rattle.bridge.specs.Bridge.{cleared, powerOn, isPending, busy, isStrong, deviceReset, setPointer, configured, withoutSpu, pended, topBit, accepted, bytesOf, takenWhileBusy, goodConfiguration, goodParameter, writeNumber, withRegisters, afterWrite}
+use Rattle.bridge.specs.Bridge.{cleared, powerOn, isPending, busy, isStrong, setPointer, configured, withoutSpu, pended, topBit, accepted, bytesOf, takenWhileBusy, goodConfiguration, goodParameter, writeNumber, withRegisters, afterWrite}
 use Rattle.bridge.specs.Bridge.{switchesOn, pullupAfter, finished, finishedReset, finishedBit, finishedWrite, finishedRead, finishedTriplet, finishedOf, afterTime, afterFitting, afterWithdrawal, command}
 use Rattle.bridge.specs.Reached.{Reached}
 use Rattle.bridge.specs.Reached.Reached.{on, write, wait, fit, withdraw}
-use Rattle.bridge.proofs.Writes.{afterWrite-done, afterWrite-refused}
+use Rattle.bridge.proofs.Writes.{afterWrite-done}
 use Rattle.bridge.proofs.Effects.{command-write}
-use Rattle.pullup.specs.Pullup.{nibble, oneWire, configurationAt, spuAt, isOn, PullUp}
+use Rattle.pullup.specs.Pullup.{nibble, OfBits, oneWire, configurationAt, spuAt, isOn, PullUp}
 use Rattle.pullup.proofs.Configurations.{digit-le, good-stored}
 
 -- ---- tests
@@ -44,7 +44,7 @@ both false u e = absurd (false≢true e)
 -- ---- what is so of the registers
 
 record Fine (r : Registers) : Type 0 where
-  pub bits : (a : Bool) × (p : Bool) × (w : Bool) × (r .configuration ≡ nibble a p w)
+  pub bits : OfBits (r .configuration)
   pub strong : r .pullup ≡ true → isStrong (r .configuration) ≡ true
   pub idle : r .pullup ≡ true → r .pending ≡ Nothing
 
@@ -91,7 +91,7 @@ fine-pended q r f =
       idle = λ e. absurd (false≢true e);
     }
   where
-    go : (a : Bool) × (p : Bool) × (w : Bool) × (r .configuration ≡ nibble a p w) → (t : Bool) → (a : Bool) × (p : Bool) × (w : Bool) × (cond t (withoutSpu (r .configuration)) (r .configuration) ≡ nibble a p w)
+    go : OfBits (r .configuration) → (t : Bool) → OfBits (cond t (withoutSpu (r .configuration)) (r .configuration))
     go b true = (b .0, false, b .2, ap withoutSpu (b .3) ∙ without-spu (b .0) (b .1) (b .2))
     go b false = b
 
@@ -175,7 +175,7 @@ accepted-pended c x r =
     Pended : ℕ → Type 0
     Pended k = (q : Pending) × (accepted k x r ≡ pended q r)
 
-    go : (t : Bool) → eqb c 0xB4 ≡ t → (u : Bool) → eqb c 0x87 ≡ u → (v : Bool) → eqb c 0xA5 ≡ v → (w : Bool) → eqb c 0x96 ≡ w → (z : Bool) → eqb c 0x78 ≡ z → cond t true (cond u true (cond v true (cond w true (cond z true false)))) ≡ true → (q : Pending) × (accepted c x r ≡ pended q r)
+    go : (t : Bool) → eqb c 0xB4 ≡ t → (u : Bool) → eqb c 0x87 ≡ u → (v : Bool) → eqb c 0xA5 ≡ v → (w : Bool) → eqb c 0x96 ≡ w → (z : Bool) → eqb c 0x78 ≡ z → cond t true (cond u true (cond v true (cond w true (cond z true false)))) ≡ true → Pended c
     go true e u eu v ev w ew z ez h = subst⁻¹ Pended (eqb-true c 0xB4 e) (Reset, refl)
     go false e true eu v ev w ew z ez h = subst⁻¹ Pended (eqb-true c 0x87 eu) (SingleBit (topBit x), refl)
     go false e false eu true ev w ew z ez h = subst⁻¹ Pended (eqb-true c 0xA5 ev) (WriteByte x, refl)

@@ -1,5 +1,6 @@
 -- The configuration byte and the strong pull-up (document 02, R-12): what the bridge's definitions come to.
 --   nibble a p w       the configuration of the bits APU, SPU and 1WS
+--   OfBits n           the configuration n is that of some three bits
 --   byte a p w         the byte that writes it
 --   eightBytes         the bytes of all their combinations
 --   WrongByte x        why the byte x is refused: bit 1 is set, or the complement is wrong
@@ -27,6 +28,9 @@ use Rattle.bridge.specs.Bridge.{busy, isStrong, switchesOn, goodConfiguration, 
 -- APU is bit 0, SPU bit 2 and 1WS bit 3; bit 1 is 0.
 abbrev pub nibble : Bool → Bool → Bool → ℕ
 nibble a p w = digit a + digit p * 4 + digit w * 8
+
+abbrev pub OfBits : ℕ → Type 0
+OfBits n = (a : Bool) × (p : Bool) × (w : Bool) × (n ≡ nibble a p w)
 
 -- The upper nibble is the complement of the lower one.
 abbrev pub byte : Bool → Bool → Bool → ℕ
@@ -69,7 +73,7 @@ isOn s = s .registers .pullup
 
 pub record PullUp (s : Bridge) : Type 0 where
   -- The configuration is that of some three bits.
-  pub bits : (a : Bool) × (p : Bool) × (w : Bool) × (configurationAt s ≡ nibble a p w)
+  pub bits : OfBits (configurationAt s)
   -- While the pull-up is on, SPU is set and nothing is pending.
   pub strong : isOn s ≡ true → spuAt s ≡ true
   pub idle : isOn s ≡ true → s .registers .pending ≡ Nothing
