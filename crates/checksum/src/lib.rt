@@ -6,6 +6,8 @@
 // the register, bit by bit, for every slice.
 //
 // Worked example: of the nine bytes "123456789" the CRC-8 is A1h and the CRC-16 BB3Dh; of no bytes both are 0.
+#![tactic(auto)]
+
 mod table16;
 
 ghost use Rattle.std.specs.Prelude.{◌≡◌};
