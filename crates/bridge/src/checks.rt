@@ -113,7 +113,7 @@ impl Bridge {
         if bytes.len() != wanted {
             return REFUSED_LENGTH;
         }
-        if good_parameter(code, bytes::at(bytes, 1)) {
+        if good_parameter(code, byte::at(bytes, 1)) {
             DONE
         } else {
             REFUSED_PARAMETER

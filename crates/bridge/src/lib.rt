@@ -164,7 +164,7 @@ impl Bridge {
             };
         }
         let before = self.registers;
-        let after = before.accepted(bytes::at(bytes, 0), bytes::at(bytes, 1));
+        let after = before.accepted(byte::at(bytes, 0), byte::at(bytes, 1));
         self.registers = after;
         Answer {
             number,

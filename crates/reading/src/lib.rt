@@ -85,9 +85,9 @@ fn refused(number: u8, place: u16) -> Reading
 fn parts_in(packet: &[u8]) -> Reading
     ensures { result ≡ parts_in packet.now }
 {
-    let code = bytes::at(packet, 0);
-    let address = bytes::at(packet, 1) / 2;
-    let count = bytes::at(packet, 2);
+    let code = byte::at(packet, 0);
+    let address = byte::at(packet, 1) / 2;
+    let count = byte::at(packet, 2);
     if code == packet::WRITE {
         return Reading::Parts {
             code: packet::WRITE,
@@ -111,7 +111,7 @@ fn parts_in(packet: &[u8]) -> Reading
         address,
         start: 3,
         len: count as usize,
-        count: bytes::at(packet, count as usize + 3),
+        count: byte::at(packet, count as usize + 3),
     }
 }
 
@@ -121,7 +121,7 @@ fn is_unknown(packet: &[u8]) -> bool
     if packet.len() < 1 {
         return false;
     }
-    let code = bytes::at(packet, 0);
+    let code = byte::at(packet, 0);
     if code == packet::WRITE {
         return false;
     }
@@ -151,7 +151,7 @@ fn write_form(packet: &[u8]) -> Reading
     requires { (3 ≤ length packet.now) × (code_of packet.now ≡ 0x4B) }
     ensures { result ≡ form_of packet.now }
 {
-    let len = bytes::at(packet, 2) as usize;
+    let len = byte::at(packet, 2) as usize;
     let wanted = len + 5;
     if packet.len() != wanted {
         return refused(REFUSED_LENGTH, wanted as u16);
@@ -159,7 +159,7 @@ fn write_form(packet: &[u8]) -> Reading
     if len == 0 {
         return refused(REFUSED_COUNT, 2);
     }
-    if bytes::at(packet, 1) % 2 != 0 {
+    if byte::at(packet, 1) % 2 != 0 {
         return refused(REFUSED_BIT, 1);
     }
     parts_in(packet)
@@ -172,10 +172,10 @@ fn read_form(packet: &[u8]) -> Reading
     if packet.len() != 5 {
         return refused(REFUSED_LENGTH, 5);
     }
-    if bytes::at(packet, 2) == 0 {
+    if byte::at(packet, 2) == 0 {
         return refused(REFUSED_COUNT, 2);
     }
-    if bytes::at(packet, 1) % 2 != 1 {
+    if byte::at(packet, 1) % 2 != 1 {
         return refused(REFUSED_BIT, 1);
     }
     parts_in(packet)
@@ -185,7 +185,7 @@ fn write_read_form(packet: &[u8]) -> Reading
     requires { (3 ≤ length packet.now) × (code_of packet.now ≡ 0x2D) }
     ensures { result ≡ form_of packet.now }
 {
-    let len = bytes::at(packet, 2) as usize;
+    let len = byte::at(packet, 2) as usize;
     let wanted = len + 6;
     if packet.len() != wanted {
         return refused(REFUSED_LENGTH, wanted as u16);
@@ -197,7 +197,7 @@ fn write_read_form(packet: &[u8]) -> Reading
     if packet[behind] == 0 {
         return refused(REFUSED_COUNT, behind as u16);
     }
-    if bytes::at(packet, 1) % 2 != 0 {
+    if byte::at(packet, 1) % 2 != 0 {
         return refused(REFUSED_BIT, 1);
     }
     parts_in(packet)
@@ -210,7 +210,7 @@ fn form_of(packet: &[u8]) -> Reading
     if packet.len() < 3 {
         return short_form(packet);
     }
-    let code = bytes::at(packet, 0);
+    let code = byte::at(packet, 0);
     if code == packet::WRITE {
         return write_form(packet);
     }
@@ -238,8 +238,8 @@ fn is_sealed(packet: &[u8]) -> bool
     ensures { result ≡ is_sealed packet.now }
 {
     let place = seal_place(packet);
-    let low = bytes::at(packet, place) as u16;
-    let high = bytes::at(packet, place + 1) as u16;
+    let low = byte::at(packet, place) as u16;
+    let high = byte::at(packet, place + 1) as u16;
     low + high * 256 == packet::sent_crc(&packet[..place])
 }
 

@@ -50,7 +50,7 @@ fn pair_at(script: &[u8], place: usize) -> u32
     if next < script.len() {
         return (script[i] as u32) * 256 + script[next] as u32;
     }
-    bytes::at(script, i) as u32 * 256
+    byte::at(script, i) as u32 * 256
 }
 
 fn at_most_widest(n: u32) -> u32

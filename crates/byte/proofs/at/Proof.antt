@@ -1,9 +1,9 @@
--- `bytes::at` meets its contract: behind the end `get_or` gives its default.
+-- `byte::at` meets its contract: behind the end `get_or` gives its default.
 use mathlib.Core.Path.{refl, sym}
 use lib.ListN.{get_or-eq_default}
 use borrow.Author.Rules.{rules}
-use Rattle.bytes.proofs.at.Statement.{statement}
-use Rattle.bytes.proofs.at.Tie as tie
+use Rattle.byte.proofs.at.Statement.{statement}
+use Rattle.byte.proofs.at.Tie as tie
 
 shared-slice-read-result : tie.Need-shared-slice-read-result
 shared-slice-read-result c = search rules
