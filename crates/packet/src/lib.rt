@@ -4,6 +4,8 @@
 // and reading packets are crates of their own.
 //
 // Worked example: a read of 2 bytes from address 20h is 87 41 02 FE 47. The CRC-16 of 87 41 02 is B801h, and 47FEh is sent.
+#![tactic(auto)]
+
 ghost use Rattle.std.specs.Prelude.{◌≡◌};
 ghost use Rattle.packet.specs.Request.{inverted_of};
 

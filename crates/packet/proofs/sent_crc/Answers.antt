@@ -1,8 +1,6 @@
 -- `packet::sent_crc` meets its contract: the CRC-16 of the bytes, inverted.
 use mathlib.Core.Path.{◌≡◌, ap}
-use Prim.Native.Nat.{ℕ, ◌-◌, ◌≤◌}
-use native.Mathlib.Omega.{arith}
-use borrow.Author.Rules.{rules}
+use Prim.Native.Nat.{ℕ, ◌-◌}
 use Rattle.checksum.specs.Register.{crc16_of}
 use Rattle.packet.specs.Request.{inverted_of}
 use Rattle.packet.proofs.sent_crc.Goals as goal
