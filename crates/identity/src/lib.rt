@@ -4,6 +4,8 @@
 // an ID is also one number of 64 bits, with the family code in its low byte.
 //
 // Worked example: 02 1C B8 01 00 00 00 A2 has the family 02h and the right CRC, and is the number A200_0000_01B8_1C02h.
+#![tactic(auto)]
+
 ghost use Rattle.std.specs.Prelude.{◌≡◌};
 ghost use Rattle.identity.specs.Identity.{number_of, bit_of, refusal_of};
 
@@ -30,6 +32,7 @@ pub fn number(bytes: &[u8; 8]) -> u64
 }
 
 // Bit k of an ID; a bit past the last is 0.
+#[tactic(auto, unfolding(crate::specs::Identity::bit_of))]
 pub fn bit(id: u64, k: u8) -> bool
     ensures { result ≡ bit_of id k }
 {

@@ -1,8 +1,6 @@
 -- `identity::bit` meets its contract: past the last bit of a number of 64 bits all read 0.
-use mathlib.Core.Path.{refl, sym}
+use mathlib.Core.Path.{sym}
 use native.Mathlib.Omega.{arith}
-use borrow.Author.Rules.{rules}
-use Rattle.identity.specs.Identity.{bit_of}
 use Rattle.identity.proofs.Bits.{bit_of_past}
 use Rattle.identity.proofs.bit.Goals as goal
 

@@ -1,9 +1,7 @@
-use mathlib.Core.Path.{◌≡◌, sym, ap, ◌∙◌}
-use Prim.Native.Nat.{ℕ, ◌≤◌, ◌<◌, ◌^◌, ◌-◌}
-use native.Mathlib.Omega.{arith}
-use lib.ListN.{length, get_or, drop}
+use mathlib.Core.Path.{◌≡◌}
+use Prim.Native.Nat.{◌≤◌, ◌<◌, ◌^◌, ◌-◌}
+use lib.ListN.{length, drop}
 use Rattle.identity.specs.Identity.{number_of}
-use Rattle.identity.proofs.Numbers.{number_of_none, number_of_down, down_lt, seven_lt}
 use Rattle.identity.proofs.number.Given as goal
 
 abbrev pub invariant-loop-i : goal.invariant-loop-i
