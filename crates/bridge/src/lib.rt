@@ -28,7 +28,7 @@ pub const REFUSED_LENGTH: u8 = 7;
 pub const REFUSED_PARAMETER: u8 = 8;
 
 // The register that a read gives.
-#[derive(Drop)]
+#[derive(Clone, Copy)]
 pub enum Pointer {
     Status,
     ReadData,
@@ -36,7 +36,7 @@ pub enum Pointer {
 }
 
 // The 1-Wire command that waits for time to pass.
-#[derive(Drop)]
+#[derive(Clone, Copy)]
 pub enum Pending {
     Nothing,
     Reset,
@@ -47,7 +47,7 @@ pub enum Pending {
 }
 
 // The five bits of the status register that change here; LL is always 1, SD always 0, and 1WB is whether a command is pending.
-#[derive(Drop)]
+#[derive(Clone, Copy)]
 pub struct StatusBits {
     pub dir: bool,
     pub tsb: bool,
@@ -56,7 +56,7 @@ pub struct StatusBits {
     pub ppd: bool,
 }
 
-#[derive(Drop)]
+#[derive(Clone, Copy)]
 pub struct Registers {
     pub status: StatusBits,
     pub configuration: u8,
@@ -67,14 +67,14 @@ pub struct Registers {
     pub pullup: bool,
 }
 
-#[derive(Drop)]
+#[derive(Clone, Copy)]
 pub struct Bridge {
     pub registers: Registers,
     pub line: Line,
 }
 
 // What a write, a fitting or a withdrawal answers: its number, and the bridge afterwards.
-#[derive(Drop)]
+#[derive(Clone, Copy)]
 pub struct Answer {
     pub number: u8,
     pub bridge: Bridge,

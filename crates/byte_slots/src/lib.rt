@@ -15,7 +15,7 @@ use line::Line;
 use probe::{Condition, MATCH_ROM, Probe, READ_ROM, RESUME, SEARCH_ROM, SEARCHING, SKIP_ROM};
 
 // The levels of eight slots, the first in the low bit, and the line after them.
-#[derive(Drop)]
+#[derive(Clone, Copy)]
 pub struct Levels {
     pub byte: u8,
     pub line: Line,
@@ -181,7 +181,7 @@ fn all_rest(line: Line) -> bool
 }
 
 // What eight slots come to, where that is settled before they begin: every probe is foreseen.
-#[derive(Drop)]
+#[derive(Clone, Copy)]
 struct Prospect {
     settled: bool,
     levels: u8,

@@ -18,14 +18,14 @@ use form::next_at;
 // The address that stands for a probe of the old kind: those of chips are below it.
 pub const NO_ADDRESS: u8 = 128;
 
-#[derive(Drop)]
+#[derive(Clone, Copy)]
 pub struct Sensor {
     pub pointer: u8,
     pub registers: [u8; 16],
 }
 
 // What comes next: a byte of the packet, or a slot of the answer.
-#[derive(Drop)]
+#[derive(Clone, Copy)]
 pub enum Place {
     Code,
     Address,
@@ -49,7 +49,7 @@ pub enum Place {
 
 // What a packet has asked so far: its code and address byte, how many data bytes are still to come and how many are to be read, the CRC of
 // the bytes so far, and what the sensor is meant to be.
-#[derive(Drop)]
+#[derive(Clone, Copy)]
 pub struct Asked {
     pub code: u8,
     pub address: u8,
@@ -60,7 +60,7 @@ pub struct Asked {
 }
 
 // A packet under way: so many bits of the byte that comes next, which make up this much of it.
-#[derive(Drop)]
+#[derive(Clone, Copy)]
 pub struct Packet {
     pub place: Place,
     pub bits: u8,
@@ -68,7 +68,7 @@ pub struct Packet {
     pub asked: Asked,
 }
 
-#[derive(Drop)]
+#[derive(Clone, Copy)]
 pub struct Chip {
     pub address: u8,
     pub sensor: Sensor,

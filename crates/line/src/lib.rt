@@ -22,21 +22,21 @@ pub const REFUSED_FITTED: u8 = 4;
 pub const MOST: usize = 64;
 
 // The table of probes: the first `count` entries are fitted, in the order in which they came; the others hold one fixed value.
-#[derive(Drop)]
+#[derive(Clone, Copy)]
 pub struct Line {
     pub probes: [Probe; 64],
     pub count: usize,
 }
 
 // A slot's level and the line after it.
-#[derive(Drop)]
+#[derive(Clone, Copy)]
 pub struct Slotted {
     pub level: bool,
     pub line: Line,
 }
 
 // The number that a fitting returns and the line after it.
-#[derive(Drop)]
+#[derive(Clone, Copy)]
 pub struct Fitting {
     pub number: u8,
     pub line: Line,

@@ -16,14 +16,14 @@ use bridge::Bridge;
 use probe::SEARCH_ROM;
 
 // The highest bit of a pass at which both levels were 0 and 0 was taken, if there is one.
-#[derive(Drop)]
+#[derive(Clone, Copy)]
 pub enum Conflict {
     Nowhere,
     At { bit: u8 },
 }
 
 // A pass under way: the bridge, the bits taken so far as a number, and the last conflict so far.
-#[derive(Drop)]
+#[derive(Clone, Copy)]
 pub struct Walk {
     pub bridge: Bridge,
     pub id: u64,

@@ -38,7 +38,7 @@ pub const STANDARD: u32 = 0;
 pub const OVERDRIVE: u32 = 1;
 
 // Which of the three slots of a search bit comes next.
-#[derive(Drop)]
+#[derive(Clone, Copy)]
 pub enum Slot {
     // It sends the bit.
     First,
@@ -48,7 +48,7 @@ pub enum Slot {
     Third,
 }
 
-#[derive(Drop)]
+#[derive(Clone, Copy)]
 pub enum Condition {
     Deaf,
     // Taking a ROM command: so many bits so far, which make up this much of the code.
@@ -68,7 +68,7 @@ pub const SEARCHING: Condition = Condition::Searching {
     slot: Slot::First,
 };
 
-#[derive(Drop)]
+#[derive(Clone, Copy)]
 pub struct Probe {
     pub id: u64,
     pub marked: bool,

@@ -24,7 +24,7 @@ const REFUSED_BIT: u8 = 19;
 // What stands for the place where there is none.
 pub const NO_PLACE: u16 = 0;
 
-#[derive(Drop)]
+#[derive(Clone, Copy)]
 pub enum Reading {
     // The code, the address, where the write data starts in the packet and how long it is, and R.
     Parts {

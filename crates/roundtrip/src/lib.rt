@@ -13,7 +13,7 @@ ghost use Rattle.roundtrip.specs.RoundTrip.{read_back, again_number, again_place
 use reading::Reading;
 
 // A number, and its place, which is 0 where the number has none.
-#[derive(Drop)]
+#[derive(Clone, Copy)]
 pub struct Answer {
     pub number: u8,
     pub place: u16,

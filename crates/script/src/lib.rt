@@ -35,7 +35,7 @@ pub const BYTE: u32 = 8;
 const WIDEST: u32 = 8;
 
 // Bits that were read, as a number, and the place behind them.
-#[derive(Drop)]
+#[derive(Clone, Copy)]
 pub struct Piece {
     pub number: u32,
     pub next: usize,
@@ -75,7 +75,7 @@ fn bits_at(script: &[u8], place: usize, n: u32) -> Piece
 // ---- the reader
 
 // The script's reader: a place in the script, kept with the script's bytes.
-#[derive(Drop)]
+#[derive(Clone, Copy)]
 pub struct Reader<'a> {
     pub script: &'a [u8],
     pub place: usize,

@@ -15,7 +15,7 @@ use bridge::Bridge;
 // The refusal of a search, by its number in the table of document 01.
 pub const REFUSED_SHORT: u8 = 9;
 
-#[derive(Drop)]
+#[derive(Clone, Copy)]
 pub enum Answer {
     // So many IDs are listed, by so many passes, and whether the list is complete.
     Listed {
@@ -28,7 +28,7 @@ pub enum Answer {
     },
 }
 
-#[derive(Drop)]
+#[derive(Clone, Copy)]
 pub struct Searched {
     pub answer: Answer,
     pub bridge: Bridge,

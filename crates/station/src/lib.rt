@@ -20,14 +20,14 @@ pub const REFUSED_FAMILY: u8 = 21;
 
 pub const REFUSED_ADDRESS: u8 = 22;
 
-#[derive(Drop)]
+#[derive(Clone, Copy)]
 pub struct Station {
     pub bridge: Bridge,
     pub chips: Chips,
 }
 
 // What a fitting or a withdrawal answers: its number, and the station afterwards.
-#[derive(Drop)]
+#[derive(Clone, Copy)]
 pub struct Answer {
     pub number: u8,
     pub station: Station,

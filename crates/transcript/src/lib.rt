@@ -22,7 +22,7 @@ pub const MOST: usize = 180136;
 // The refusal of a script that is not of its form, by its number in the table of document 01.
 pub const REFUSED: u8 = 15;
 
-#[derive(Drop)]
+#[derive(Clone, Copy)]
 pub enum Run {
     // So many bytes were written.
     Done { len: usize },
@@ -30,7 +30,7 @@ pub enum Run {
 }
 
 // An event: its kind, and how many bytes it has from which place on. A read and a wait have none.
-#[derive(Drop)]
+#[derive(Clone, Copy)]
 struct Event {
     kind: u32,
     n: usize,

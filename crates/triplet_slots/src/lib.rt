@@ -17,7 +17,7 @@ use probe::{Condition, Probe, Slot};
 const LAST_BIT: u8 = 63;
 
 // The levels of the first two slots, the bit written in the third, and the line after them.
-#[derive(Drop)]
+#[derive(Clone, Copy)]
 pub struct Tripled {
     pub first: bool,
     pub second: bool,
@@ -101,7 +101,7 @@ fn all_decided(mut line: Line, level: bool) -> Line
 }
 
 // What the first two slots come to, where that is settled before they begin.
-#[derive(Drop)]
+#[derive(Clone, Copy)]
 struct Prospect {
     settled: bool,
     first: bool,

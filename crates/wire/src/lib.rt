@@ -23,35 +23,35 @@ const MOST: usize = 64;
 
 // The table of chips: its first `count` entries are in use, and stand beside the probes in the same order. An entry that is not in use
 // holds what stands for a probe of the old kind.
-#[derive(Drop)]
+#[derive(Clone, Copy)]
 pub struct Chips {
     pub table: [Chip; 64],
     pub count: usize,
 }
 
 // The line and its chips.
-#[derive(Drop)]
+#[derive(Clone, Copy)]
 pub struct Wire {
     pub line: Line,
     pub chips: Chips,
 }
 
 // A slot's level, and the line and its chips after it.
-#[derive(Drop)]
+#[derive(Clone, Copy)]
 pub struct Slotted {
     pub level: bool,
     pub wire: Wire,
 }
 
 // The levels of eight slots, the first in the low bit, and the line and its chips after them.
-#[derive(Drop)]
+#[derive(Clone, Copy)]
 pub struct Levels {
     pub byte: u8,
     pub wire: Wire,
 }
 
 // The levels of the first two slots of a triplet, the bit written in the third, and the line and its chips after them.
-#[derive(Drop)]
+#[derive(Clone, Copy)]
 pub struct Tripled {
     pub first: bool,
     pub second: bool,

@@ -13,7 +13,7 @@ use line::{DONE, Line};
 pub const REFUSED_NOT_FITTED: u8 = 20;
 
 // The number that a withdrawal returns and the line after it.
-#[derive(Drop)]
+#[derive(Clone, Copy)]
 pub struct Withdrawal {
     pub number: u8,
     pub line: Line,
