@@ -5,6 +5,8 @@
 // search that ends at the probe sets it, and Resume asks for it. It has a speed, and slots at the other speed do not reach it.
 //
 // Worked example: a probe that has taken seven bits of CCh and takes a last 1 is selected.
+#![tactic(auto)]
+
 ghost use Rattle.std.specs.Prelude.{◌≡◌, ◌+◌, ◌*◌, ◌/◌};
 ghost use Rattle.probe.specs.declared.Condition.TheVariants.{Matching};
 ghost use Rattle.probe.specs.Probe.{deaf_new, in_condition, with_mark, reaches, sends_searching, sends, resumed};
@@ -156,6 +158,7 @@ impl Probe {
 
     // ---- what a probe sends
 
+    #[tactic(auto, unfolding(crate::specs::Probe::sends_searching))]
     fn sends_searching(self, bit: u8, slot: Slot) -> bool
         ensures { result ≡ sends_searching self.id bit slot }
     {
@@ -167,6 +170,7 @@ impl Probe {
     }
 
     // What the probe lets the line be in a slot that reaches it: false where it sends 0, true where it sends 1 or nothing.
+    #[tactic(auto, unfolding(crate::specs::Probe::sends, crate::specs::Probe::sends_in))]
     pub fn sends(self) -> bool
         ensures { result ≡ sends self }
     {
@@ -187,6 +191,7 @@ impl Probe {
     // ---- what a probe becomes
 
     // The probe once a ROM command is whole.
+    #[tactic(auto, unfolding(crate::specs::Probe::obeyed))]
     pub fn obeyed(self, code: u8) -> Probe
         ensures { result ≡ obeyed code self }
     {
@@ -288,6 +293,7 @@ impl Probe {
         }
     }
 
+    #[tactic(auto, unfolding(crate::specs::Probe::took_searching))]
     fn took_searching(self, bit: u8, slot: Slot, level: bool) -> Probe
         ensures { result ≡ took_searching bit slot level self }
     {
@@ -305,6 +311,7 @@ impl Probe {
     }
 
     // No slot changes the probe, at whatever speed.
+    #[tactic(auto, unfolding(crate::specs::Probe::rests, crate::specs::Probe::rests_in))]
     pub fn rests(self) -> bool
         ensures { result ≡ rests self }
     {
@@ -323,6 +330,7 @@ impl Probe {
     }
 
     // The probe after a slot of this level that reaches it.
+    #[tactic(auto, unfolding(crate::specs::Probe::took, crate::specs::Probe::took_in))]
     pub fn took(self, level: bool) -> Probe
         ensures { result ≡ took level self }
     {
