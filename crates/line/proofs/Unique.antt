@@ -3,8 +3,6 @@ use mathlib.Core.Path.{sym, ap₂, ◌∙◌}
 use mathlib.Core.Bool.{Bool}
 use Prim.Native.Nat.{ℕ}
 use Rattle.line.specs.declared.Line.{Line}
-use Rattle.line.specs.declared.Slotted.{Slotted}
-use Rattle.line.specs.declared.Fitting.{Fitting}
 use Rattle.checksum.proofs.Unique.{OneAnswer}
 use Rattle.line.proofs.Line.bare.Reads as bare
 use Rattle.line.proofs.Line.present.Reads as present

@@ -4,6 +4,8 @@
 // every probe takes that level. A slot comes at a speed and reaches the probes of that speed alone.
 //
 // Worked example: two probes that send 1 and 0 leave the line at 0 in a slot in which the bridge writes 1.
+#![tactic(auto)]
+
 ghost use Rattle.std.specs.Prelude.{◌≡◌, cond, ltb, ◌<◌, ◌≤◌, length, take, drop};
 ghost use Rattle.line.specs.Line.{all, any, fitted, bare, on_fitted, level, slot, after_reset, present, is_fitted};
 ghost use Rattle.line.specs.Line.{fit_number, with_probe, after_fit};
