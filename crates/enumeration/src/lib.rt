@@ -5,3 +5,5 @@
 // which only this is known: that something is at a node exactly if something is at one of its two children.
 //
 // Worked example: of the numbers 1, 2 and 6 the search order is 2, 6, 1: 1 has bit 0, and 2 and 6 part at bit 2.
+
+#![tactic(auto)]

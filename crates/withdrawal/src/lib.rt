@@ -4,6 +4,8 @@
 // they came, and a free entry holds what it held at power-on.
 //
 // Worked example: where A, B and C came in this order, withdrawing B leaves A and C; withdrawing B again gives 20.
+#![tactic(auto)]
+
 ghost use Rattle.std.specs.Prelude.{◌≡◌};
 ghost use Rattle.withdrawal.specs.Withdrawal.{withdraw_number, without, after_withdraw};
 
