@@ -8,15 +8,15 @@ PUBLIC = re.compile(r'\bpub\s+(?:\w+\s+|"C"\s+)*fn\s+(\w+)')
 HEAD = re.compile(r"(?:<[^>]*>)?\s*\(([^()]*)\)\s*(?:->\s*(.+?)\s*)?(?=\b(?:requires|ensures|ghost)\b|\{)", re.S)
 IMPL = re.compile(r"\bimpl\b(?:<[^>]*>)?\s*(\w+)[^{]*\{")
 
-LAW = re.compile(r'^ *pub (one-[\w-]+) :(.*?)^ *\1 ', re.M | re.S)
-USE = re.compile(r'^use Rattle·(\w+)·proofs\.proofs\.(\S+) as (\S+)$', re.M)
+LAW = re.compile(r'^ *pub (one_\w+) :(.*?)^ *\1 ', re.M | re.S)
+USE = re.compile(r'^use Rattle\.(\w+)\.(?:proofs|specs\.contracts)\.(\S+) as (\S+)$', re.M)
 FORM = re.compile(r'^ *(?:abbrev |unfoldable )?(?:pub )?(One\w*) :', re.M)
-SHARED = re.compile(r'^use Rattle·\w+\.proofs\.Unique\.\{(\w+(?:, \w+)*)\}$', re.M)
+SHARED = re.compile(r'^use Rattle\.\w+\.proofs\.Unique\.\{(\w+(?:, \w+)*)\}$', re.M)
 BROUGHT = re.compile(r'^use .*\bOne[A-Z].*$', re.M)
 MODULE = re.compile(r'^ *module\b.*$', re.M)
 
 # The one module that a law may stand in: it has every model of the program logic as its parameter, and no premise.
-EVERY_MODEL = 'module _ {M : Type 1} (𝓤 : URA M) (H : Heap 𝓤) (A : Atoms 𝓤) (mem : Memory → SProp 𝓤) (run : Routine → Fun 𝓤) where'
+EVERY_MODEL = 'module _ {M : Type 1} {𝓤 : Ura M} (𝓛 : Logic 𝓤) (mem : Memory → SProp 𝓤) (run : Routine → Fun 𝓤) where'
 
 
 class Function(NamedTuple):
@@ -41,7 +41,7 @@ class Function(NamedTuple):
     @property
     def law(self):
         """The name of its law: a C name stands there without the crate's name before it."""
-        return 'one-' + self.name.removeprefix(f'{self.crate}_' if self.crate == 'trelvox' else '').replace('_', '-')
+        return 'one_' + self.name.removeprefix(f'{self.crate}_' if self.crate == 'trelvox' else '')
 
     @property
     def exported(self):
@@ -112,13 +112,13 @@ def due(function):
     proved by hand has its contract as clauses of the program logic.
     """
     lent = [i for i, (_, kind) in enumerate(function.parameters) if re.match(r"&(?:'\w+ )?mut\b", kind)]
-    contents = [f'now (s{" .1" * i} .0)' for i in lent]
+    contents = [f's{".1" * i}.0.now' for i in lent]
     if function.result.startswith('&'):
-        return [('.Reads', r'OneSeen (?:\{C = [^{}]*\} )?' + re.escape('{}.Post (λ κ x. (x .ptr, x .now))'))]
+        return [('.Reads', r'OneSeen (?:\{C = [^{}]*\} )?' + re.escape('{}.Post (λ κ x. (x.ref_ptr, x.now))'))]
     if lent:
         seen = contents[0] if len(lent) == 1 else f'({", ".join(contents)})'
         return [('.Reads', re.escape('OneAnswerAnd {}.Post (λ κ s. ' + seen + ')'))]
-    return [('.Reads', re.escape('OneAnswer {}.Post')), ('', re.escape('OneEnsured 𝓤 {}.ended ({}.clauses 𝓤 H A mem run)'))]
+    return [('.Reads', re.escape('OneAnswer {}.Post')), ('', re.escape('OneEnsured 𝓤 {}.ended ({}.clauses 𝓛 mem run)'))]
 
 
 def is_due(function, statement, names):

@@ -10,7 +10,7 @@ from shared import loaded_tool
 
 EDIT = re.compile(r'\| (\w+/\w+) \|')
 FILE = re.compile(r'`([\w./-]+/[\w.-]+\.\w+)`')
-CRATE = re.compile(r'^(\w+):', re.M)
+CRATE = re.compile(r'^(\w+)(?: staticlib)?:', re.M)
 DEFINED = re.compile(r'((?:`\w+`,? )+)\((\w+)\)')
 OF_MACHINE = re.compile(r"""\b(?:gcc|g\+\+|clang|qemu|valgrind)|(?<!machine )(?<!MACHINE, ')\bcc\b|\$\{?CC\b""")
 
@@ -26,7 +26,7 @@ def missing_edits(root):
 def is_there(root, name):
     """A file by its path from the root, from crates/ or from some crate; what is built is not looked for."""
     places = [root, root / 'crates', *(root / 'crates').iterdir()]
-    return name.startswith('target/') or any((place / name).exists() for place in places)
+    return '/out/' in name or any((place / name).exists() for place in places)
 
 
 def missing_files(root):

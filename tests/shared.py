@@ -1,5 +1,6 @@
 """What the tests of the bench and of the tools share."""
 
+import os
 import subprocess
 import sys
 from functools import cache
@@ -21,17 +22,20 @@ def loaded_tool(name='script', root=ROOT):
 # ---- programs
 
 
-def succeed(*command):
+def succeed(*command, folder=ROOT):
     """Runs a command of the build; where it fails its output is shown and the test ends."""
-    done = subprocess.run(command, cwd=ROOT, stdout=subprocess.PIPE, stderr=subprocess.STDOUT, check=False)
+    done = subprocess.run(command, cwd=folder, stdin=subprocess.DEVNULL, stdout=subprocess.PIPE, stderr=subprocess.STDOUT, check=False)
     if done.returncode != 0:
         sys.exit(done.stdout.decode() + f'failed: {" ".join(map(str, command))}')
 
 
 def built(name):
-    """A proved program, built where it is not."""
-    succeed('rt', 'check', name)
-    return ROOT / 'target/bin' / name
+    """A proved program, built where there is none or a source is younger; `rt ci` leaves those that it has run."""
+    program = ROOT / 'crates' / name / 'out' / name
+    if not loaded_tool('bench').is_current(program):
+        succeed('rt', 'run', folder=ROOT / 'crates' / name)
+        os.utime(program)  # rt leaves it as it is where nothing has changed
+    return program
 
 
 def compiled(source, program, *flags):
