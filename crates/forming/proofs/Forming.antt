@@ -1,10 +1,10 @@
 -- Forming, put together from its steps: the buffer after each step is the packet's first bytes over what was there.
---   length_write, length-read, length_write_read    how long a packet is
+--   length_write, length_read, length_write_read    how long a packet is
 --   number_write, number_read, number_write_read    the number as the code works it out
 --   kept, laid          the two outcomes of a call
 --   sealed              the checksum completes the packet
---   write_laid, read-laid, write_read_laid    the steps of each form
---   write_within, read-within, write_read_within    the limits of an accepted request, and room for its packet
+--   write_laid, read_laid, write_read_laid    the steps of each form
+--   write_within, read_within, write_read_within    the limits of an accepted request, and room for its packet
 use mathlib.Core.Path.{◌≡◌, refl, sym, ap, subst, ◌∙◌}
 use mathlib.Core.Bool.{Bool, cond, ◌&&◌, and-eq-true_iff}
 use mathlib.Core.List.{List, [], ◌∷◌, ◌++◌}

@@ -1,5 +1,5 @@
 -- Tests made one after the other, and what an accepted request shows.
---   and_then, and-not      a test that is made second
+--   and_then, and_not      a test that is made second
 --   limits_first           a request outside its limits is refused with 11, whatever the buffer
 --   good_of, room_of       the number is 0 only where the request is within its limits and the packet fits
 --   address_of_lem, count_of   the limits as orders

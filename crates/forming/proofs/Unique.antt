@@ -3,7 +3,7 @@ use mathlib.Core.Path.{sym, ◌∙◌}
 use Rattle.checksum.proofs.Unique.{OneAnswerAnd}
 use Rattle.forming.proofs.form_write.Reads as form_write
 use Rattle.forming.proofs.form_read.Reads as form_read
-use Rattle.forming.proofs.form_write_read.Reads as form-write-read
+use Rattle.forming.proofs.form_write_read.Reads as form_write_read
 
 pub one_form_write : OneAnswerAnd form_write.Post (λ κ s. s.1.1.0.now)
 one_form_write κ a x y s t p q = (p.0 ∙ sym q.0, p.1 ∙ sym q.1)
@@ -11,5 +11,5 @@ one_form_write κ a x y s t p q = (p.0 ∙ sym q.0, p.1 ∙ sym q.1)
 pub one_form_read : OneAnswerAnd form_read.Post (λ κ s. s.1.1.0.now)
 one_form_read κ a x y s t p q = (p.0 ∙ sym q.0, p.1 ∙ sym q.1)
 
-pub one_form_write_read : OneAnswerAnd form-write-read.Post (λ κ s. s.1.1.1.0.now)
+pub one_form_write_read : OneAnswerAnd form_write_read.Post (λ κ s. s.1.1.1.0.now)
 one_form_write_read κ a x y s t p q = (p.0 ∙ sym q.0, p.1 ∙ sym q.1)

@@ -4,6 +4,8 @@
 // refused call changes no byte.
 //
 // Worked example: forming a read of 2 bytes from address 20h gives 87 41 02 FE 47 and 0. From address 80h it gives 11.
+#![tactic(auto)]
+
 ghost use Rattle.std.specs.Prelude.{◌≡◌, ◌&&◌, [], ◌∷◌, ◌+◌, ◌≤◌, length, take};
 ghost use Rattle.packet.specs.Request.{write, read, write_read, seal_of, packet_of};
 ghost use Rattle.forming.specs.Buffer.{over, placed};

@@ -7,7 +7,7 @@
 --   pick              what holds either way of a test holds of the choice by it
 --   Head p b n        the packet p has the low address bit b, a first count that is not zero, and n bytes
 --   by_form           what holds of every refusal and of the parts of each form holds of the form of a packet
---   read_refused, read-parts, read-wrong    the reader's answer from the form and the checksum
+--   read_refused, read_parts, read_wrong    the reader's answer from the form and the checksum
 --   Within r p        the data that the answer r tells of lies within p
 --   reading_within    so it is for every packet
 use mathlib.Core.Path.{◌≡◌, refl, sym, ap, ap₂, ◌∙◌}

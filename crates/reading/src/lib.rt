@@ -5,6 +5,8 @@
 //
 // Worked example: reading 87 41 02 FE 47 gives the code 87h, the address 20h, no data and the count 2. With 46 for the last byte it is
 // refused with 14, without that byte with 17, wanting 5, and with 40 for the second byte with 19, at offset 1.
+#![tactic(auto)]
+
 ghost use Rattle.std.specs.Prelude.{◌≡◌, ◌-◌, ◌<◌, ◌≤◌, length};
 ghost use Rattle.reading.specs.declared.Reading.TheVariants.{Refused};
 ghost use Rattle.reading.specs.Reading.{code_of, is_unknown, parts_in, form_of, is_sealed, reading_of, reading_number, reading_place, data_in, start_in, place_from};
@@ -115,6 +117,7 @@ fn parts_in(packet: &[u8]) -> Reading
     }
 }
 
+#[tactic(auto, unfolding(crate::specs::Reading::is_unknown))]
 fn is_unknown(packet: &[u8]) -> bool
     ensures { result ≡ is_unknown packet.now }
 {

@@ -2,8 +2,8 @@
 --   Bytes p        every element of p is a byte
 --   Again r p      where r are the parts of p, the request that they stand for is within its limits, and its packet is p
 --   again          so it is for every packet and the reader's answer
---   again_formed, again-refused    what forming the parts again gives
---   request_write, request-read, request_write_read    the request by the code of the parts
+--   again_formed, again_refused    what forming the parts again gives
+--   request_write, request_read, request_write_read    the request by the code of the parts
 use mathlib.Core.Path.{◌≡◌, refl, sym, ap, ap₂, subst, ◌∙◌}
 use mathlib.Core.Bool.{Bool, true, false, cond, ◌&&◌}
 use mathlib.Core.List.{List, [], ◌∷◌, ◌++◌}

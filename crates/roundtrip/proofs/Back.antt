@@ -2,7 +2,7 @@
 --   longest         the packet of a request within its limits has at most 261 bytes
 --   longest_is      and a write-read of 255 bytes has so many
 --   back            the reader's answer for the packet of a request within its limits
---   numbered_back, values-back    that answer in document 01's number and values
+--   numbered_back, values_back    that answer in document 01's number and values
 --   request_back    the request that this answer stands for in that packet is the very request, its data included
 --   back_formed     the reader's answer for what forming leaves at the front of a buffer
 --   back_refused    a request that is refused

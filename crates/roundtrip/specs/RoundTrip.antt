@@ -12,7 +12,7 @@ use Rattle.forming.specs.Forming.{form_number}
 use Rattle.reading.specs.Reading.{reading_of, reading_number, reading_place, parts_of}
 
 -- Reading a packet just formed gives the parts of the request that made it, the data as start and length; a refused request is refused
--- with the number that forming gave, which has no place. That these parts of that packet stand for the very request is the law `request-back`.
+-- with the number that forming gave, which has no place. That these parts of that packet stand for the very request is the law `request_back`.
 unfoldable pub read_back : Request → List ℕ → Reading
 read_back q d = cond (eqb (form_number q d) 0) (parts_of q) (Refused (form_number q d) 0)
 

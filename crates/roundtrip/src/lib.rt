@@ -5,6 +5,8 @@
 //
 // Worked example: 87 41 02 FE 47, taken apart and formed again in a buffer of 5 bytes, is 87 41 02 FE 47. 87 41 02 FE is not formed again:
 // the answer is 17, with the 5 bytes that it wants.
+#![tactic(auto)]
+
 ghost use Rattle.std.specs.Prelude.{◌≡◌};
 ghost use Rattle.packet.specs.Request.{write, read, write_read};
 ghost use Rattle.forming.specs.Forming.{formed};

@@ -1,11 +1,11 @@
 -- Events and the place behind them.
 --   kind_at_piece, length_at_piece    the pieces that are an event's kind and a write's byte count
 --   kind_at_lt, length_at_lt          there are four kinds, and a write has at most three bytes
---   size_at_write, -fit, -other      how many bits an event of each kind takes
+--   size_at_write, _fit, _other       how many bits an event of each kind takes
 --   size_at_low, size_at_high         an event takes 2 to 66 bits
 --   end_of_next, end_of_none          one event more, and none left
---   end_of_low                       each event takes two bits at least
---   count_of_most                    a well-formed script has at most 16,376 events
+--   end_of_low                        each event takes two bits at least
+--   count_of_most                     a well-formed script has at most 16,376 events
 use Rattle.std.proofs.Common.{◌≡◌, ℕ, zero, suc, ◌+◌, ◌-◌, ◌*◌, ◌<◌, ◌≤◌, Bool, true, false, cond, ◌&&◌, eqb, ltb, leb, List, length, ap, arith, ne_eqb, leb-true}
 use mathlib.Core.Bool.{and-eq-true_iff}
 use Rattle.script.specs.declared.Piece.{Piece}

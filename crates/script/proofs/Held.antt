@@ -1,4 +1,4 @@
--- The reader's type over the one lifetime of a signature, for the walks of the functions over it.
+-- The reader's type over the one lifetime of a signature.
 --   B κs           its row
 --   D κs           the type as it is declared
 --   L κs           that type's laws

@@ -6,7 +6,7 @@
 --   count_of_bytes      the event count is the first two bytes
 --   number_at_lt        n bits make a number below 2 ^ n
 --   number_at_add       m + n bits are the first m, and then n
---   piece_number, piece-lt, piece-next     the number of a piece, how large it is, and the place behind it
+--   piece_number, piece_lt, piece_next     the number of a piece, how large it is, and the place behind it
 --   bytes_at_snoc       one byte more
 use Rattle.std.proofs.Common.{◌≡◌, ℕ, zero, suc, ◌+◌, ◌-◌, ◌*◌, ◌/◌, ◌%◌, ◌^◌, ◌<◌, ◌≤◌, List, [], ◌∷◌, ◌++◌, get_or, sym, ap, ◌∙◌, subst, ap₂, add-zero, mod-lt, mod-eq_of_lt, one-mul, pow-suc, zero-add, add-one, one-add, arith, pow_pos, pow-add, shr-shr}
 use native.Mathlib.Nat.{mod-one}

@@ -5,6 +5,8 @@
 // behind the script's end read as 0, so every place can be read, and whether a script is well formed is asked once, of its end.
 //
 // Worked example: 00 05 1F 04 6D 24 has five events. The first is 00 01 11110000, a write of the byte F0h; the second is 01, a read.
+#![tactic(auto)]
+
 ghost use Rattle.std.specs.Prelude.{◌≡◌, ◌+◌, ◌/◌, ◌≤◌, min, length};
 ghost use Rattle.script.specs.Script.{piece_at, count_of, size_at, end_of, is_padded, is_script};
 ghost use Rattle.script.specs.Pair.{Pair};
@@ -61,7 +63,7 @@ fn at_most_widest(n: u32) -> u32
 
 // The n bits from a place on; of more than eight, the first eight.
 fn bits_at(script: &[u8], place: usize, n: u32) -> Piece
-    ensures { result ≡ piece_at script.now place (min n 8) }
+    ensures reads { result ≡ piece_at script.now place (min n 8) }
 {
     let n = at_most_widest(n);
     let pair = pair_at(script, place);

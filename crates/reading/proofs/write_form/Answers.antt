@@ -1,0 +1,25 @@
+-- `reading::write_form` meets its contract: at each `return` the tests that led there say which case of the form by its code holds.
+use Rattle.std.proofs.Common.{refl}
+use borrow.Author.Tests.{eq-eqb, ne_eqb}
+use Rattle.reading.proofs.Taken.{form_known}
+use Rattle.reading.proofs.write_form.Goals as goal
+
+pub returns-then-packet-wanted : goal.returns-then-packet-wanted
+returns-then-packet-wanted c =
+    let by_code = form_known c.args.packet.now 0x4B c.requires.0 c.requires.1 refl in
+    simp (by_code, ← c.at-len.ensures, ne_eqb _ _ c.if-packet-wanted.true) c.refused.ensures
+
+pub returns-then-len-eq0 : goal.returns-then-len-eq0
+returns-then-len-eq0 c =
+    let by_code = form_known c.args.packet.now 0x4B c.requires.0 c.requires.1 refl in
+    simp (by_code, ← c.at-len.ensures, eq-eqb _ _ c.if-packet-wanted.false, eq-eqb _ _ c.if-len-eq0.true) c.refused-then-len-eq0.ensures
+
+pub returns-then-at-ne0 : goal.returns-then-at-ne0
+returns-then-at-ne0 c =
+    let by_code = form_known c.args.packet.now 0x4B c.requires.0 c.requires.1 refl in
+    simp (by_code, ← c.at-len.ensures, eq-eqb _ _ c.if-packet-wanted.false, ne_eqb _ _ c.if-len-eq0.false, ← c.at.ensures, ne_eqb _ _ c.if-at-ne0.true) c.refused-then-at-ne0.ensures
+
+pub returns : goal.returns
+returns c =
+    let by_code = form_known c.args.packet.now 0x4B c.requires.0 c.requires.1 refl in
+    simp (by_code, ← c.at-len.ensures, eq-eqb _ _ c.if-packet-wanted.false, ne_eqb _ _ c.if-len-eq0.false, ← c.at.ensures, eq-eqb _ _ c.if-at-ne0.false) c.parts_in.ensures
