@@ -3,6 +3,7 @@ ghost use Rattle.std.specs.Prelude.{◌<◌, ◌≤◌, length};
 
 use crate::{hex, say, show};
 use bridge::{Answer, Bridge};
+use std::io;
 
 const A: [u8; 8] = [0x19, 0x01, 0, 0, 0, 0, 0, 0x00];
 
@@ -11,44 +12,44 @@ const B: [u8; 8] = [0x19, 0x02, 0, 0, 0, 0, 0, 0x59];
 const C: [u8; 8] = [0x02, 0x1C, 0xB8, 0x01, 0, 0, 0, 0xA2];
 
 // The bridge after a call, once the call's word, its bytes and the number that it gave are said.
-fn answered(word: &[u8], bytes: &[u8], answer: Answer) -> Bridge {
-    say::text(word);
-    say::bytes(bytes);
-    say::text(b": ");
-    say::number(answer.number);
-    say::end();
+fn answered(rt: &impl Print, word: &[u8], bytes: &[u8], answer: Answer) -> io::Result<Bridge> {
+    say::text(rt, word)?;
+    say::bytes(rt, bytes)?;
+    say::text(rt, b": ")?;
+    say::number(rt, answer.number)?;
+    say::end(rt)?;
     let after = answer.bridge;
-    after
+    Ok(after)
 }
 
-fn write_bytes(bridge: Bridge, bytes: &[u8]) -> Bridge {
-    answered(b"write", bytes, bridge.write(bytes))
+fn write_bytes(rt: &impl Print, bridge: Bridge, bytes: &[u8]) -> io::Result<Bridge> {
+    answered(rt, b"write", bytes, bridge.write(bytes))
 }
 
-fn write(bridge: Bridge, text: &[u8]) -> Bridge {
+fn write(rt: &impl Print, bridge: Bridge, text: &[u8]) -> io::Result<Bridge> {
     let mut bytes = [0u8; 16];
     let n = hex::decode(text, &mut bytes);
-    write_bytes(bridge, &bytes[..n])
+    write_bytes(rt, bridge, &bytes[..n])
 }
 
-fn read(bridge: Bridge) -> Bridge {
-    say::text(b"read: ");
-    say::byte(bridge.read());
-    say::end();
-    bridge
+fn read(rt: &impl Print, bridge: Bridge) -> io::Result<Bridge> {
+    say::text(rt, b"read: ")?;
+    say::byte(rt, bridge.read())?;
+    say::end(rt)?;
+    Ok(bridge)
 }
 
-fn wait(bridge: Bridge) -> Bridge {
-    say::text(b"time passes\n");
-    bridge.wait()
+fn wait(rt: &impl Print, bridge: Bridge) -> io::Result<Bridge> {
+    say::text(rt, b"time passes\n")?;
+    Ok(bridge.wait())
 }
 
-fn fit(bridge: Bridge, id: &[u8; 8]) -> Bridge {
-    answered(b"fit", id, bridge.fit(id))
+fn fit(rt: &impl Print, bridge: Bridge, id: &[u8; 8]) -> io::Result<Bridge> {
+    answered(rt, b"fit", id, bridge.fit(id))
 }
 
-fn withdraw(bridge: Bridge, id: &[u8; 8]) -> Bridge {
-    answered(b"withdraw", id, bridge.withdraw(id))
+fn withdraw(rt: &impl Print, bridge: Bridge, id: &[u8; 8]) -> io::Result<Bridge> {
+    answered(rt, b"withdraw", id, bridge.withdraw(id))
 }
 
 // The ID whose bytes are given.
@@ -60,14 +61,14 @@ fn given_id(text: &[u8]) -> [u8; 8] {
     ]
 }
 
-fn fit_given(bridge: Bridge, text: &[u8]) -> Bridge {
+fn fit_given(rt: &impl Print, bridge: Bridge, text: &[u8]) -> io::Result<Bridge> {
     let id = given_id(text);
-    fit(bridge, &id)
+    fit(rt, bridge, &id)
 }
 
-fn withdraw_given(bridge: Bridge, text: &[u8]) -> Bridge {
+fn withdraw_given(rt: &impl Print, bridge: Bridge, text: &[u8]) -> io::Result<Bridge> {
     let id = given_id(text);
-    withdraw(bridge, &id)
+    withdraw(rt, bridge, &id)
 }
 
 fn send_byte(bridge: Bridge, byte: u8) -> Bridge {
@@ -85,48 +86,48 @@ fn send_bytes(bridge: Bridge, bytes: &[u8]) -> Bridge {
     b
 }
 
-fn send(bridge: Bridge, text: &[u8]) -> Bridge {
+fn send(rt: &impl Print, bridge: Bridge, text: &[u8]) -> io::Result<Bridge> {
     let mut bytes = [0u8; 16];
     let n = hex::decode(text, &mut bytes);
-    say::text(b"reset, send");
-    say::bytes(&bytes[..n]);
-    say::end();
+    say::text(rt, b"reset, send")?;
+    say::bytes(rt, &bytes[..n])?;
+    say::end(rt)?;
     let reset = bridge.write(b"\xB4").bridge.wait();
-    send_bytes(reset, &bytes[..n])
+    Ok(send_bytes(reset, &bytes[..n]))
 }
 
-fn receive_byte(bridge: Bridge) -> Bridge {
+fn receive_byte(rt: &impl Print, bridge: Bridge) -> io::Result<Bridge> {
     let read = bridge.write(b"\x96").bridge.wait();
     let pointed = read.write(b"\xE1\xE1").bridge;
-    say::spaced(pointed.read());
-    pointed
+    say::spaced(rt, pointed.read())?;
+    Ok(pointed)
 }
 
-fn receive(bridge: Bridge) -> Bridge {
-    say::text(b"receive");
+fn receive(rt: &impl Print, bridge: Bridge) -> io::Result<Bridge> {
+    say::text(rt, b"receive")?;
     let mut b = bridge;
     let mut i: u8 = 0;
     while i < 8 {
-        b = receive_byte(b);
+        b = receive_byte(rt, b)?;
         i += 1;
     }
-    say::end();
-    b
+    say::end(rt)?;
+    Ok(b)
 }
 
 fn triplet(bridge: Bridge) -> Bridge {
     bridge.write(b"\x78\x00").bridge.wait()
 }
 
-fn pass(bridge: Bridge) -> Bridge {
-    say::text(b"64 triplets 78 00\n");
+fn pass(rt: &impl Print, bridge: Bridge) -> io::Result<Bridge> {
+    say::text(rt, b"64 triplets 78 00\n")?;
     let mut b = bridge;
     let mut i: u8 = 0;
     while i < 64 {
         b = triplet(b);
         i += 1;
     }
-    b
+    Ok(b)
 }
 
 // The probe of family 19h with this serial number; nothing is printed.
@@ -137,40 +138,40 @@ fn fit_serial(bridge: Bridge, n: u8) -> Bridge {
     bridge.fit(&id).bridge
 }
 
-fn fit_63(bridge: Bridge) -> Bridge {
-    say::text(b"fit 63 probes\n");
+fn fit_63(rt: &impl Print, bridge: Bridge) -> io::Result<Bridge> {
+    say::text(rt, b"fit 63 probes\n")?;
     let mut b = bridge;
     let mut i: u8 = 1;
     while i < 64 {
         b = fit_serial(b, i);
         i += 1;
     }
-    b
+    Ok(b)
 }
 
 // The effect of a letter, with the text of the bytes before it.
-fn act(bridge: Bridge, letter: u8, text: &[u8]) -> Bridge {
+fn act(rt: &impl Print, bridge: Bridge, letter: u8, text: &[u8]) -> io::Result<Bridge> {
     match letter {
-        b'w' => write(bridge, text),
-        b'i' => fit_given(bridge, text),
-        b'o' => withdraw_given(bridge, text),
-        b's' => send(bridge, text),
-        b'r' => read(bridge),
-        b't' => wait(bridge),
-        b'a' => fit(bridge, &A),
-        b'b' => fit(bridge, &B),
-        b'c' => fit(bridge, &C),
-        _ => more(bridge, letter),
+        b'w' => write(rt, bridge, text),
+        b'i' => fit_given(rt, bridge, text),
+        b'o' => withdraw_given(rt, bridge, text),
+        b's' => send(rt, bridge, text),
+        b'r' => read(rt, bridge),
+        b't' => wait(rt, bridge),
+        b'a' => fit(rt, bridge, &A),
+        b'b' => fit(rt, bridge, &B),
+        b'c' => fit(rt, bridge, &C),
+        _ => more(rt, bridge, letter),
     }
 }
 
-fn more(bridge: Bridge, letter: u8) -> Bridge {
+fn more(rt: &impl Print, bridge: Bridge, letter: u8) -> io::Result<Bridge> {
     match letter {
-        b'g' => receive(bridge),
-        b'd' => pass(bridge),
-        b'f' => fit_63(bridge),
-        b'p' => show::fields(bridge),
-        _ => bridge,
+        b'g' => receive(rt, bridge),
+        b'd' => pass(rt, bridge),
+        b'f' => fit_63(rt, bridge),
+        b'p' => show::fields(rt, bridge),
+        _ => Ok(bridge),
     }
 }
 
@@ -189,20 +190,20 @@ fn start(case: &[u8], i: usize) -> usize
     j
 }
 
-fn step(bridge: Bridge, case: &[u8], i: usize) -> Bridge
+fn step(rt: &impl Print, bridge: Bridge, case: &[u8], i: usize) -> io::Result<Bridge>
     requires { i < length case.now }
 {
     let letter = case[i];
     let from = start(case, i);
-    act(bridge, letter, &case[from..i])
+    act(rt, bridge, letter, &case[from..i])
 }
 
-pub(crate) fn run(bridge: Bridge, case: &[u8]) -> Bridge {
+pub(crate) fn run(rt: &impl Print, bridge: Bridge, case: &[u8]) -> io::Result<Bridge> {
     let mut b = bridge;
     let mut i = 0;
     while i < case.len() {
-        b = step(b, case, i);
+        b = step(rt, b, case, i)?;
         i += 1;
     }
-    b
+    Ok(b)
 }

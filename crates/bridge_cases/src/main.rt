@@ -14,6 +14,8 @@
 //     f   63 probes are fitted
 //
 // Each line of the output is a title, an act, the pull-up or a probe.
+#![tactic(auto)]
+
 mod acts;
 mod hex;
 mod say;
@@ -22,7 +24,22 @@ mod show;
 ghost use Rattle.std.specs.Prelude.{◌≤◌, length};
 
 use bridge::Bridge;
-use libc::STDIN_FILENO;
+use std::io;
+use std::io::Read;
+
+// Reads until the buffer is full, the input ends or a read fails, and answers how many bytes that is.
+fn read_full(input: &mut impl Read, buf: &mut [u8]) -> usize
+    ensures { result ≤ length buf.new }
+{
+    let mut done = 0;
+    while done < buf.len() {
+        match input.read(&mut buf[done..]) {
+            Ok(n) if 0 < n => done += n,
+            _ => break,
+        }
+    }
+    done
+}
 
 // Where the line that goes on at place i ends.
 fn line_end(text: &[u8], i: usize) -> usize
@@ -39,30 +56,31 @@ fn line_end(text: &[u8], i: usize) -> usize
     j
 }
 
-fn act_line(bridge: Bridge, line: &[u8]) -> Bridge {
+fn act_line(rt: &impl Print, bridge: Bridge, line: &[u8]) -> io::Result<Bridge> {
     if line.len() == 0 {
-        return bridge;
+        return Ok(bridge);
     }
     if line[0] == b'-' {
-        say::text(line);
-        say::end();
-        return Bridge::power_on();
+        say::text(rt, line)?;
+        say::end(rt)?;
+        return Ok(Bridge::power_on());
     }
-    acts::run(bridge, line)
+    acts::run(rt, bridge, line)
 }
 
-fn act_lines(text: &[u8]) {
+fn act_lines(rt: &impl Print, text: &[u8]) -> io::Result<()> {
     let mut bridge = Bridge::power_on();
     let mut i = 0;
     while i < text.len() {
         let end = line_end(text, i);
-        bridge = act_line(bridge, &text[i..end]);
+        bridge = act_line(rt, bridge, &text[i..end])?;
         i = end + 1;
     }
+    Ok(())
 }
 
-fn main() {
-    let mut text = io::large_buffer();
-    let n = io::read_full(STDIN_FILENO, &mut text);
-    act_lines(&text[..n]);
+fn main(rt: HostRuntime) -> io::Result<()> {
+    let mut text = [0u8; 65536];
+    let n = read_full(&mut rt.stdin(), &mut text);
+    act_lines(&rt, &text[..n])
 }

@@ -1,26 +1,27 @@
 // What the cases print with: text, decimal numbers and bytes on standard output.
-use libc::STDOUT_FILENO;
+use std::io;
 
-pub(crate) fn text(s: &[u8]) {
-    io::write_all(STDOUT_FILENO, s);
+pub(crate) fn text(rt: &impl Print, s: &[u8]) -> io::Result<()> {
+    rt.write_all(s)
 }
 
-pub(crate) fn number(n: usize) {
-    io::print_decimal(STDOUT_FILENO, n as u64);
+pub(crate) fn number(rt: &impl Print, n: usize) -> io::Result<()> {
+    print!(rt; "{n}")
 }
 
-pub(crate) fn byte(x: u8) {
-    io::print_hex(STDOUT_FILENO, x as u64, 2);
+pub(crate) fn byte(rt: &impl Print, x: u8) -> io::Result<()> {
+    print!(rt; "{x:02x}")
 }
 
 // Eight bytes in a row, then a space.
-pub(crate) fn grouped(s: &[u8]) {
+pub(crate) fn grouped(rt: &impl Print, s: &[u8]) -> io::Result<()> {
     let mut n = 0;
     while n < s.len() {
         if n % 8 == 0 {
-            text(b" ");
+            text(rt, b" ")?;
         }
-        byte(s[n]);
+        byte(rt, s[n])?;
         n += 1;
     }
+    Ok(())
 }

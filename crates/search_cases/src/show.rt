@@ -4,6 +4,7 @@ use bridge::Bridge;
 use line::Line;
 use probe::{Condition, Probe};
 use search::{Answer, Searched};
+use std::io;
 
 // A list as it is before a search.
 fn blank() -> [u8; 512] {
@@ -11,62 +12,62 @@ fn blank() -> [u8; 512] {
 }
 
 // How many IDs are listed, once what was answered is said.
-fn answer(given: Answer) -> usize {
+fn answer(rt: &impl Print, given: Answer) -> io::Result<usize> {
     match given {
         Answer::Listed {
             count,
             passes,
             complete,
         } => {
-            say::number(count);
-            say::text(b" listed, passes ");
-            say::number(passes);
+            say::number(rt, count)?;
+            say::text(rt, b" listed, passes ")?;
+            say::number(rt, passes)?;
             if complete {
-                say::text(b", complete");
+                say::text(rt, b", complete")?;
             } else {
-                say::text(b", not complete");
+                say::text(rt, b", not complete")?;
             }
-            count
+            Ok(count)
         }
         Answer::Refused { number } => {
-            say::text(b"refused with ");
-            say::number(number as usize);
-            0
+            say::text(rt, b"refused with ")?;
+            say::number(rt, number as usize)?;
+            Ok(0)
         }
     }
 }
 
-fn status(bridge: Bridge) {
-    say::text(b", status ");
-    say::byte(bridge.read());
+fn status(rt: &impl Print, bridge: Bridge) -> io::Result<()> {
+    say::text(rt, b", status ")?;
+    say::byte(rt, bridge.read())
 }
 
 // What was answered and the status afterwards.
-fn outcome(title: &[u8], searched: Searched) -> usize {
-    say::text(title);
-    say::text(b": ");
+fn outcome(rt: &impl Print, title: &[u8], searched: Searched) -> io::Result<usize> {
+    say::text(rt, title)?;
+    say::text(rt, b": ")?;
     let given = searched.answer;
-    let count = answer(given);
+    let count = answer(rt, given)?;
     let after = searched.bridge;
-    status(after);
-    count
+    status(rt, after)?;
+    Ok(count)
 }
 
 // The first bytes of a list, in eights.
-fn front(list: &[u8], n: usize) {
+fn front(rt: &impl Print, list: &[u8], n: usize) -> io::Result<()> {
     if n <= list.len() {
-        say::grouped(&list[..n]);
+        say::grouped(rt, &list[..n])?;
     }
-    say::text(b"\n");
+    say::text(rt, b"\n")
 }
 
-pub(crate) fn search(title: &[u8], bridge: Bridge, b: u16) -> Bridge {
+pub(crate) fn search(rt: &impl Print, title: &[u8], bridge: Bridge, b: u16) -> io::Result<Bridge> {
     let mut list = blank();
     let searched = search::search(bridge, b, &mut list);
-    let count = outcome(title, searched);
-    front(&list, count % 65 * 8);
+    let count = outcome(rt, title, searched)?;
+    front(rt, &list, count % 65 * 8)?;
     let after = searched.bridge;
-    after
+    Ok(after)
 }
 
 // ---- a list that is too long to print
@@ -117,20 +118,20 @@ fn in_order(list: &[u8; 512], count: usize) -> usize {
 }
 
 // The first and the last of the IDs, and how many of them come before the one after them.
-pub(crate) fn ends(title: &[u8], bridge: Bridge, b: u16) {
+pub(crate) fn ends(rt: &impl Print, title: &[u8], bridge: Bridge, b: u16) -> io::Result<()> {
     let mut list = blank();
     let searched = search::search(bridge, b, &mut list);
-    let count = outcome(title, searched);
+    let count = outcome(rt, title, searched)?;
     if 0 < count {
         let first = id_at(&list, 0);
         let last = id_at(&list, count - 1);
-        say::grouped(&first);
-        say::text(b" to");
-        say::grouped(&last);
-        say::text(b", in order ");
-        say::number(in_order(&list, count));
+        say::grouped(rt, &first)?;
+        say::text(rt, b" to")?;
+        say::grouped(rt, &last)?;
+        say::text(rt, b", in order ")?;
+        say::number(rt, in_order(&list, count))?;
     }
-    say::text(b"\n");
+    say::text(rt, b"\n")
 }
 
 // ---- lists of other lengths
@@ -144,11 +145,17 @@ fn searched_within(bridge: Bridge, b: u16, list: &mut [u8], room: usize) -> Sear
 }
 
 // A search whose list is the first bytes of a buffer, of which the first 40 are shown.
-pub(crate) fn room(title: &[u8], bridge: Bridge, b: u16, room: usize) {
+pub(crate) fn room(
+    rt: &impl Print,
+    title: &[u8],
+    bridge: Bridge,
+    b: u16,
+    room: usize,
+) -> io::Result<()> {
     let mut buffer = blank();
     let searched = searched_within(bridge, b, &mut buffer, room);
-    outcome(title, searched);
-    front(&buffer, 40);
+    outcome(rt, title, searched)?;
+    front(rt, &buffer, 40)
 }
 
 // ---- Resume
@@ -166,47 +173,49 @@ fn id_bytes(id: u64) -> [u8; 8] {
     ]
 }
 
-fn selected(p: Probe) {
+fn selected(rt: &impl Print, p: Probe) -> io::Result<()> {
     let c = p.condition;
     if let Condition::Selected = c {
         let bytes = id_bytes(p.id);
-        say::grouped(&bytes);
+        say::grouped(rt, &bytes)?;
     }
+    Ok(())
 }
 
-fn all_selected(line: Line) {
+fn all_selected(rt: &impl Print, line: Line) -> io::Result<()> {
     let mut i: usize = 0;
     while i < 64 {
         let p = line.probes[i];
-        selected(p);
+        selected(rt, p)?;
         i += 1;
     }
+    Ok(())
 }
 
 // The probes that a Resume selects.
-pub(crate) fn resumed(title: &[u8], bridge: Bridge) {
+pub(crate) fn resumed(rt: &impl Print, title: &[u8], bridge: Bridge) -> io::Result<()> {
     let after = lines::resumed(bridge);
     let line = after.line;
-    say::text(title);
-    say::text(b":");
-    all_selected(line);
-    say::text(b"\n");
+    say::text(rt, title)?;
+    say::text(rt, b":")?;
+    all_selected(rt, line)?;
+    say::text(rt, b"\n")
 }
 
 // The status after a 1-Wire reset at overdrive.
-pub(crate) fn presence(title: &[u8], bridge: Bridge) {
-    say::text(title);
-    status(lines::reset_at_overdrive(bridge));
-    say::text(b"\n");
+pub(crate) fn presence(rt: &impl Print, title: &[u8], bridge: Bridge) -> io::Result<()> {
+    say::text(rt, title)?;
+    status(rt, lines::reset_at_overdrive(bridge))?;
+    say::text(rt, b"\n")
 }
 
-pub(crate) fn pullup(title: &[u8], bridge: Bridge) {
-    say::text(title);
+pub(crate) fn pullup(rt: &impl Print, title: &[u8], bridge: Bridge) -> io::Result<()> {
+    say::text(rt, title)?;
     let r = bridge.registers;
     if r.pullup {
-        say::text(b": it is on\n");
+        say::text(rt, b": it is on\n")
     } else {
-        say::text(b": it is off\n");
+        say::text(rt, b": it is off\n")
     }
 }
 

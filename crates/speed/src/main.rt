@@ -8,7 +8,13 @@
 //   W, R, S, P, M   the same at overdrive: all probes and the bridge are put there before the rounds, and the bridge back behind them
 //   f   a full search
 // After each work it prints the status and the read-data byte, and for f before them the CRC-16 of the list.
+#![tactic(auto)]
+
+ghost use Rattle.std.specs.Prelude.{◌≤◌, length};
+
 use bridge::Bridge;
+use std::io;
+use std::io::Read;
 
 // The ID of family 19h with this serial number.
 fn of_serial(n: u8) -> [u8; 8] {
@@ -70,22 +76,22 @@ fn searched(bridge: Bridge, list: &mut [u8; 512]) -> Bridge {
     search::search(bridge, 65535, list).bridge
 }
 
-fn listed(list: &[u8; 512]) {
-    io::print_hex(1, checksum::crc16(list) as u64, 4);
-    io::write_all(1, b" ");
+fn listed(rt: &impl Print, list: &[u8; 512]) -> io::Result<()> {
+    let sum = checksum::crc16(list);
+    print!(rt; "{sum:04x} ")
 }
 
 // A full search; the checksum of its list is printed.
-fn full_search(before: Bridge) -> Bridge {
+fn full_search(rt: &impl Print, before: Bridge) -> io::Result<Bridge> {
     let mut list = [0u8; 512];
     let bridge = searched(before, &mut list);
-    listed(&list);
-    bridge
+    listed(rt, &list)?;
+    Ok(bridge)
 }
 
-fn rounds(before: Bridge, work: u8) -> Bridge {
+fn rounds(rt: &impl Print, before: Bridge, work: u8) -> io::Result<Bridge> {
     if work == b'f' {
-        return full_search(before);
+        return full_search(rt, before);
     }
     let mut left: u32 = 100;
     let mut bridge = before;
@@ -93,7 +99,7 @@ fn rounds(before: Bridge, work: u8) -> Bridge {
         bridge = round(bridge, work);
         left -= 1;
     }
-    bridge
+    Ok(bridge)
 }
 
 // All probes and the bridge at overdrive, by Overdrive-Skip ROM.
@@ -110,30 +116,44 @@ fn slowed(bridge: Bridge) -> Bridge {
     pass::command(slow, &[0xE1, 0xF0])
 }
 
-fn worked(before: Bridge, work: u8) -> Bridge {
+fn worked(rt: &impl Print, before: Bridge, work: u8) -> io::Result<Bridge> {
     match work {
-        b'A'..=b'Z' => slowed(rounds(quickened(before), work + 32)),
-        _ => rounds(before, work),
+        b'A'..=b'Z' => Ok(slowed(rounds(rt, quickened(before), work + 32)?)),
+        _ => rounds(rt, before, work),
     }
 }
 
-fn shown(bridge: Bridge) {
-    io::print_hex(1, bridge.read() as u64, 2);
-    io::write_all(1, b" ");
+fn shown(rt: &impl Print, bridge: Bridge) -> io::Result<()> {
+    let status = bridge.read();
     let answer = bridge.write(&[0xE1, 0xE1]);
     let pointed = answer.bridge;
-    io::print_hex(1, pointed.read() as u64, 2);
-    io::write_all(1, b"\n");
+    let readout = pointed.read();
+    print!(rt; "{status:02x} {readout:02x}\n")
 }
 
-fn main() {
+// Reads until the buffer is full, the input ends or a read fails, and answers how many bytes that is.
+fn read_full(input: &mut impl Read, buf: &mut [u8]) -> usize
+    ensures { result ≤ length buf.new }
+{
+    let mut done = 0;
+    while done < buf.len() {
+        match input.read(&mut buf[done..]) {
+            Ok(n) if 0 < n => done += n,
+            _ => break,
+        }
+    }
+    done
+}
+
+fn main(rt: HostRuntime) -> io::Result<()> {
     let mut works = [0; 120];
-    let n = io::read_full(0, &mut works);
+    let n = read_full(&mut rt.stdin(), &mut works);
     let mut bridge = with_64();
     let mut i = 0;
     while i < n {
-        bridge = worked(bridge, works[i]);
-        shown(bridge);
+        bridge = worked(&rt, bridge, works[i])?;
+        shown(&rt, bridge)?;
         i += 1;
     }
+    Ok(())
 }
