@@ -4,6 +4,8 @@
 // line, the bit of the third slot follows from them, and each searching probe takes it.
 //
 // Worked example: a searching probe whose next bit is 1 gives the levels 1 and 0, and after a third slot of 1 it searches on.
+#![tactic(auto)]
+
 ghost use Rattle.std.specs.Prelude.{◌≡◌, true, false};
 ghost use Rattle.line.specs.Line.{all, fitted, on_fitted};
 ghost use Rattle.probe.specs.Probe.{agrees, with_mark};
