@@ -3,7 +3,6 @@ use mathlib.Core.Path.{sym, ap₂, ◌∙◌}
 use Prim.Native.Nat.{ℕ}
 use Rattle.checksum.proofs.Unique.{OneAnswer}
 use Rattle.line.specs.declared.Line.{Line}
-use Rattle.byte_slots.specs.declared.Levels.{Levels}
 use Rattle.byte_slots.proofs.slots.Reads as slots
 
 pub one_slots : OneAnswer slots.Post

@@ -12,7 +12,7 @@ use lib.Dec.{eqb, leb}
 use borrow.Author.Tests.{le-leb, lt-leb, eqb-true, eqb-false}
 use Rattle.identity.specs.Identity.{bit_of}
 use Rattle.probe.specs.declared.Condition.{Condition}
-use Rattle.probe.specs.declared.Condition.TheVariants.{Deaf, Taking, Sending, Matching, Selected}
+use Rattle.probe.specs.declared.Condition.TheVariants.{Taking, Sending, Matching, Selected}
 use Rattle.probe.specs.declared.Probe.{Probe}
 use Rattle.probe.specs.Probe.{took, took_in, took_code, took_sending, took_matching, agrees, obeyed, digit, rests, rests_in, in_condition, with_mark, differed}
 use Rattle.probe.proofs.Rests.{took_rests}

@@ -5,6 +5,8 @@
 // and each probe takes all of them at once.
 //
 // Worked example: a line of two probes that send their IDs, the next eight bits of one being 3Fh and of the other F5h, reads as 35h.
+#![tactic(auto)]
+
 ghost use Rattle.std.specs.Prelude.{◌≡◌, ◌+◌, ◌*◌, ◌/◌, ◌%◌, ◌^◌, true, false};
 ghost use Rattle.probe.specs.declared.Condition.TheVariants.{Matching};
 ghost use Rattle.probe.specs.Probe.{resumed, rests, in_condition, with_mark, digit};
@@ -31,6 +33,7 @@ const MATCHING: Condition = Condition::Matching {
 const LAST_EIGHT: u8 = 56;
 
 // The next eight slots at this speed all reach the probe, and what it sends in them does not depend on their levels; or it rests.
+#[tactic(auto, unfolding(crate::specs::Foresight::foreseen, crate::specs::Foresight::foreseen_in))]
 fn foreseen(p: Probe, speed: u32) -> bool
     ensures { result ≡ foreseen speed 8 p }
 {
@@ -68,6 +71,7 @@ fn eight_bits(id: u64, bit: u8) -> u8
 }
 
 // What a foreseen probe lets the line be in the next eight slots, the first in the low bit.
+#[tactic(auto, unfolding(crate::specs::Foresight::ahead, crate::specs::Foresight::ahead_in))]
 fn ahead(p: Probe) -> u8
     ensures { result ≡ ahead 8 p }
 {

@@ -10,7 +10,7 @@ ghost use Rattle.std.specs.Prelude.{◌≡◌, true, false};
 ghost use Rattle.line.specs.Line.{all, fitted, on_fitted};
 ghost use Rattle.probe.specs.Probe.{agrees, with_mark};
 ghost use Rattle.triplet_slots.specs.Triplet.{chosen as chosenBy, first_level, second_level, written_bit, after_triplet};
-ghost use Rattle.triplet_slots.specs.Triplet.{settled as settledAt, decided};
+ghost use Rattle.triplet_slots.specs.Triplet.{settled as settled_at, decided};
 
 use line::Line;
 use probe::{Condition, Probe, Slot};
@@ -121,7 +121,7 @@ fn unsettled() -> Prospect
 }
 
 fn outlook(line: Line, speed: u32) -> Prospect
-    ensures { result.settled ≡ true → (all (settledAt speed) (fitted line) ≡ true) × (result.first ≡ first_level speed line) × (result.second ≡ second_level speed line) }
+    ensures { result.settled ≡ true → (all (settled_at speed) (fitted line) ≡ true) × (result.first ≡ first_level speed line) × (result.second ≡ second_level speed line) }
 {
     let n = line.entries();
     let mut first = true;
