@@ -3,7 +3,6 @@ use mathlib.Core.Path.{sym, ap₂, ◌∙◌}
 use Prim.Native.Nat.{ℕ}
 use Rattle.checksum.proofs.Unique.{OneAnswer}
 use Rattle.bridge.specs.declared.Bridge.{Bridge}
-use Rattle.bridge.specs.declared.Answer.{Answer}
 use Rattle.bridge.proofs.Bridge.power_on.Reads as power-on
 use Rattle.bridge.proofs.Bridge.write.Reads as write
 use Rattle.bridge.proofs.Bridge.read.Reads as read

@@ -8,6 +8,7 @@ use crate::{
 use line::DONE;
 
 // How many bytes the command has in all; 0 for a code that is unknown.
+#[tactic(auto, unfolding(crate::specs::Bridge::bytes_of))]
 fn bytes_of(code: u8) -> usize
     ensures { result ≡ bytes_of code }
 {
@@ -24,6 +25,7 @@ fn bytes_of(code: u8) -> usize
     }
 }
 
+#[tactic(auto, unfolding(crate::specs::Bridge::taken_while_busy))]
 fn taken_while_busy(code: u8) -> bool
     ensures { result ≡ taken_while_busy code }
 {
@@ -34,6 +36,7 @@ fn taken_while_busy(code: u8) -> bool
     }
 }
 
+#[tactic(auto, unfolding(crate::specs::Bridge::good_pointer))]
 fn good_pointer(x: u8) -> bool
     ensures { result ≡ good_pointer x }
 {
@@ -56,6 +59,7 @@ fn good_configuration(x: u8) -> bool
     }
 }
 
+#[tactic(auto, unfolding(crate::specs::Bridge::good_parameter))]
 fn good_parameter(code: u8, x: u8) -> bool
     ensures { result ≡ good_parameter code x }
 {

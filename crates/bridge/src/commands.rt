@@ -11,6 +11,7 @@ fn top_bit(x: u8) -> bool
     x / 128 % 2 == 1
 }
 
+#[tactic(auto, unfolding(crate::specs::Bridge::pointer_of))]
 fn pointed(x: u8) -> Pointer
     ensures { result ≡ pointer_of x }
 {
@@ -105,6 +106,7 @@ impl Registers {
     }
 
     // Every code that is not named here is that of the triplet: an unknown one has been refused.
+    #[tactic(auto, unfolding(crate::specs::Bridge::accepted))]
     pub(crate) fn accepted(self, code: u8, x: u8) -> Registers
         ensures { result ≡ acceptedAs code x self }
     {

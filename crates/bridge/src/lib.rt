@@ -5,6 +5,8 @@
 //
 // Worked example: at power-on the status reads 18h. The write B4h (1-Wire Reset) is accepted, with one probe fitted the status then reads
 // 19h, and 1Ah after time has passed.
+#![tactic(auto)]
+
 mod checks;
 mod commands;
 mod time;
@@ -173,6 +175,7 @@ impl Bridge {
     }
 
     // What a read gives. It changes nothing.
+    #[tactic(auto, unfolding(crate::specs::Bridge::read_of))]
     pub fn read(self) -> u8
         ensures { result ≡ read_of self }
     {
@@ -186,6 +189,7 @@ impl Bridge {
     }
 
     // Time passes: what is pending has its effect.
+    #[tactic(auto, unfolding(crate::specs::Bridge::after_time, crate::specs::Bridge::finished_of))]
     pub fn wait(self) -> Bridge
         ensures { result ≡ after_time self }
     {

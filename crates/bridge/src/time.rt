@@ -1,6 +1,6 @@
 // Time passing: the slots of each 1-Wire command, and what a finished one leaves.
 ghost use Rattle.std.specs.Prelude.{◌≡◌};
-ghost use Rattle.bridge.specs.Bridge.{switches_on, pullup_after, finished as finishedWith, finished_reset, finished_bit, finished_triplet};
+ghost use Rattle.bridge.specs.Bridge.{switches_on, pullup_after, finished as finished_with, finished_reset, finished_bit, finished_triplet};
 ghost use Rattle.bridge.specs.Eight.{byte_of, read_data_of, finished_byte};
 
 use crate::{Bridge, Pending, Registers, StatusBits, strong};
@@ -67,7 +67,7 @@ impl Registers {
 
     // The command is over: nothing is pending.
     fn finished(self, status: StatusBits, readout: u8) -> Registers
-        ensures { result ≡ finishedWith status readout self }
+        ensures { result ≡ finished_with status readout self }
     {
         let pointer = self.pointer;
         Registers {
