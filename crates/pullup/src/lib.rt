@@ -5,3 +5,5 @@
 //
 // Worked example: B4h is SPU alone, for its nibbles are 0100 and the complement, 1011. A Write Byte after it leaves the pull-up on, and the
 // next one finds SPU cleared.
+
+#![tactic(auto)]

@@ -4,3 +4,4 @@
 // the two: the reader gives a number exactly when its condition and none before it holds, with the place that goes with it.
 //
 // Worked example: 2D 40 00 00 96 38 is as long as its form wants with an L of zero, and L and R are both zero: 18, at offset 2.
+#![tactic(auto)]

@@ -5,6 +5,8 @@
 //
 // Worked example: trelvox_form_read(0x20, 2, buffer, 5) returns 0 and leaves 87 41 02 FE 47 in the buffer. trelvox_read(buffer, 5, parts)
 // then returns 0 and leaves 87h, 20h, 0, 0, 2 in the parts; trelvox_read(buffer, 4, parts) returns 0511h, which is 17, with 5 bytes wanted.
+#![tactic(auto)]
+
 ghost use Rattle.std.specs.Prelude.{◌≡◌};
 ghost use Rattle.checksum.specs.Register.{crc8_of, crc16_of};
 ghost use Rattle.packet.specs.Request.{write, read, write_read};
