@@ -1,7 +1,7 @@
 // The commands as they are accepted: what each does at once.
 ghost use Rattle.std.specs.Prelude.{◌≡◌};
-ghost use Rattle.bridge.specs.Bridge.{cleared as clearedBut, changed as changedTo, set_pointer, configured as configuredTo};
-ghost use Rattle.bridge.specs.Bridge.{pullup_under, kept_configuration, pended as pendedOf, top_bit, pointer_of, accepted as acceptedAs};
+ghost use Rattle.bridge.specs.Bridge.{cleared as cleared_but, changed as changed_to, set_pointer, configured as configured_to};
+ghost use Rattle.bridge.specs.Bridge.{pullup_under, kept_configuration, pended as pended_of, top_bit, pointer_of, accepted as accepted_as};
 
 use crate::{Bridge, Pending, Pointer, Registers, StatusBits, strong};
 
@@ -24,7 +24,7 @@ fn pointed(x: u8) -> Pointer
 
 impl Registers {
     pub(crate) fn cleared(readout: u8) -> Registers
-        ensures { result ≡ clearedBut readout }
+        ensures { result ≡ cleared_but readout }
     {
         let status = StatusBits {
             dir: false,
@@ -45,7 +45,7 @@ impl Registers {
 
     // Every other register stays.
     fn changed(self, pointer: Pointer, pending: Pending) -> Registers
-        ensures { result ≡ changedTo pointer pending self }
+        ensures { result ≡ changed_to pointer pending self }
     {
         let status = self.status;
         Registers {
@@ -73,7 +73,7 @@ impl Registers {
     }
 
     fn configured(mut self, x: u8) -> Registers
-        ensures { result ≡ configuredTo x self }
+        ensures { result ≡ configured_to x self }
     {
         let mut status = self.status;
         status.rst = false;
@@ -97,7 +97,7 @@ impl Registers {
     }
 
     fn pended(mut self, pending: Pending) -> Registers
-        ensures { result ≡ pendedOf pending self }
+        ensures { result ≡ pended_of pending self }
     {
         let kept = self.kept_configuration();
         self.configuration = kept;
@@ -108,7 +108,7 @@ impl Registers {
     // Every code that is not named here is that of the triplet: an unknown one has been refused.
     #[tactic(auto, unfolding(crate::specs::Bridge::accepted))]
     pub(crate) fn accepted(self, code: u8, x: u8) -> Registers
-        ensures { result ≡ acceptedAs code x self }
+        ensures { result ≡ accepted_as code x self }
     {
         match code {
             Bridge::DEVICE_RESET => Registers::cleared(self.readout),

@@ -7,10 +7,12 @@
 //
 // Worked example: with A, B and C fitted, the first pass asks for 0 at every bit, ends at C, and has its last conflict at bit 0; the second
 // takes 1 there and ends at B.
+#![tactic(auto)]
+
 ghost use Rattle.std.specs.Prelude.{◌≡◌, ◌+◌, ◌*◌, ◌^◌, ◌<◌};
 ghost use Rattle.probe.specs.Probe.{digit};
-ghost use Rattle.bridge.specs.Bridge.{command as commandOf};
-ghost use Rattle.pass.specs.Pass.{direction as directionAt, noted as notedAt, triplet_byte, begun, walked, passed};
+ghost use Rattle.bridge.specs.Bridge.{command as command_of};
+ghost use Rattle.pass.specs.Pass.{direction as direction_at, noted as noted_at, triplet_byte, begun, walked, passed};
 
 use bridge::Bridge;
 use probe::SEARCH_ROM;
@@ -32,7 +34,7 @@ pub struct Walk {
 
 // A write, and time passing.
 pub fn command(bridge: Bridge, bytes: &[u8]) -> Bridge
-    ensures { result ≡ commandOf bytes.now bridge }
+    ensures { result ≡ command_of bytes.now bridge }
 {
     let answer = bridge.write(bytes);
     let written = answer.bridge;
@@ -40,8 +42,9 @@ pub fn command(bridge: Bridge, bytes: &[u8]) -> Bridge
 }
 
 // The direction to ask for at bit k, after a pass that ended at an ID with a last conflict.
+#[tactic(auto, unfolding(crate::specs::Pass::direction))]
 fn direction(previous: u64, conflict: Conflict, k: u8) -> bool
-    ensures { result ≡ directionAt previous conflict k }
+    ensures { result ≡ direction_at previous conflict k }
 {
     match conflict {
         Conflict::Nowhere => false,
@@ -63,7 +66,7 @@ fn triplet_byte(direction: bool) -> u8
 
 // The last conflict after the triplet of bit k.
 fn noted(first: bool, second: bool, taken: bool, k: u8, conflict: Conflict) -> Conflict
-    ensures { result ≡ notedAt first second taken k conflict }
+    ensures { result ≡ noted_at first second taken k conflict }
 {
     if first {
         return conflict;

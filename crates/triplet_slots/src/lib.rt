@@ -9,7 +9,7 @@
 ghost use Rattle.std.specs.Prelude.{◌≡◌, true, false};
 ghost use Rattle.line.specs.Line.{all, fitted, on_fitted};
 ghost use Rattle.probe.specs.Probe.{agrees, with_mark};
-ghost use Rattle.triplet_slots.specs.Triplet.{chosen as chosenBy, first_level, second_level, written_bit, after_triplet};
+ghost use Rattle.triplet_slots.specs.Triplet.{chosen as chosen_by, first_level, second_level, written_bit, after_triplet};
 ghost use Rattle.triplet_slots.specs.Triplet.{settled as settled_at, decided};
 
 use line::Line;
@@ -29,7 +29,7 @@ pub struct Tripled {
 
 // The bit that a triplet writes after its two levels.
 fn chosen(first: bool, second: bool, direction: bool) -> bool
-    ensures { result ≡ chosenBy first second direction }
+    ensures { result ≡ chosen_by first second direction }
 {
     if first {
         true

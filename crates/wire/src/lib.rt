@@ -8,7 +8,7 @@
 ghost use Rattle.std.specs.Prelude.{◌≡◌, true, ◌+◌, ◌*◌, ◌/◌, ◌≤◌, ◌<◌, length, take};
 ghost use Rattle.probe.specs.Probe.{in_condition, digit};
 ghost use Rattle.probe.specs.declared.Condition.TheVariants.{Deaf};
-ghost use Rattle.triplet_slots.specs.Triplet.{chosen as chosenBy};
+ghost use Rattle.triplet_slots.specs.Triplet.{chosen as chosen_by};
 ghost use Rattle.wire.specs.Pairs.{both_all};
 ghost use Rattle.wire.specs.Wire.{no_chips, fellows, listens, lets, level_on, heard_on, quieted_on, took_on, slot_on, slots_on};
 ghost use Rattle.wire.specs.Wire.{levels_on, second_on, written_on, triplet_on, reset_reaches, emptied_on, chips_without};
@@ -216,7 +216,7 @@ fn with_level(byte: u8, level: bool) -> u8
 
 // The bit that a triplet writes after its two levels.
 fn chosen(first: bool, second: bool, direction: bool) -> bool
-    ensures { result ≡ chosenBy first second direction }
+    ensures { result ≡ chosen_by first second direction }
 {
     if first {
         true

@@ -7,8 +7,7 @@ use native.Mathlib.Omega.{arith}
 use lib.Pow.{pow_mono, shl_exact}
 use lib.Dec.{lit<}
 use borrow.Author.Rules.{rules}
-use Rattle.pass.proofs.with_bit.Statement.{statement}
-use Rattle.pass.proofs.with_bit.Tie as tie
+use Rattle.pass.proofs.with_bit.Goals as goal
 
 -- the bit by itself
 weight : (k : ℕ) → k < 64 → (1 * 2 ^ k) % 2 ^ 64 ≡ 2 ^ k
@@ -22,23 +21,17 @@ doubled k = ap (λ (n : ℕ). 2 ^ n) (add-one k) ∙ pow-suc 2 k
 roomy : (k : ℕ) → k < 64 → 2 ^ (k + 1) ≤ 2 ^ 64
 roomy k h = pow_mono {j = 64} (omega arith)
 
-shl-result : tie.Need-overflow-shl-result
-shl-result c = search rules
+pub overflow_add-result : goal.overflow_add-result
+overflow_add-result c =
+    let a = c.args in
+    record { fits = omega (arith, weight a.k c.requires.0, doubled a.k, roomy a.k c.requires.0) }
 
-add-result : tie.Need-overflow-add-result
-add-result c =
-    let a = c.before.args in
-    record { fits = omega (arith, weight a.k c.before.requires.0, doubled a.k, roomy a.k c.before.requires.0) }
-
-returns : tie.Need-returns
-returns c =
-    let a = c.before.args in (
-      simp (c.if1.true, weight a.k c.before.requires.0) (omega arith),
-      omega (arith, weight a.k c.before.requires.0, doubled a.k),
+pub returns-then-bit : goal.returns-then-bit
+returns-then-bit c =
+    let a = c.args in (
+      simp (c.if-bit.true, weight a.k c.requires.0) (omega arith),
+      omega (arith, weight a.k c.requires.0, doubled a.k),
     )
 
-returns-2 : tie.Need-returns-2
-returns-2 c = (simp c.if1.false (omega arith), omega (arith, doubled c.before.args.k))
-
-pub with_bit_spec : {M : Type 1} → statement M
-with_bit_spec = tie.close (tie.spec shl-result add-result returns returns-2)
+pub returns-else-bit : goal.returns-else-bit
+returns-else-bit c = (simp c.if-bit.false (omega arith), omega (arith, doubled c.args.k))
