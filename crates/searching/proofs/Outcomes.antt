@@ -2,7 +2,7 @@
 --   searched_outcome    what m passes come to, if the passes sequence l
 --   searched_enough     as many passes as IDs do what any more do
 use mathlib.Core.Path.{◌≡◌, refl, sym, ap, ap₂, subst, subst⁻¹, ◌∙◌}
-use mathlib.Core.Bool.{true, false≢true}
+use mathlib.Core.Bool.{Bool, true, false≢true}
 use mathlib.Core.List.{List, [], ◌∷◌, ◌++◌, map, cons≢nil, nil≢cons, head-eq_of_cons-eq, tail-eq_of_cons-eq}
 use mathlib.Core.Option.{Option, none, some}
 use Prim.Native.Nat.{ℕ, zero, suc, ◌<◌, ◌≤◌}
@@ -123,29 +123,45 @@ module _ (ids : List ℕ) (rest : Rest) (there : has ids 0 0 ≡ true) where
           ∙ ap (λ (z : ℕ). line_of (map (standing 64 z) ids) rest) (head-eq_of_cons-eq f)
       go (z ∷ p) y f = o.closing p y (tail-eq_of_cons-eq f)
 
-  pub searched_outcome : (i : ℕ) (c : Conflict) {l : List ℕ} → Sequences (has ids) 64 0 0 (direction i c) l → (m : ℕ) (b : Bridge) → Idle ids rest b → Outcome ids rest l m b (searched m i c b)
-  searched_outcome i c (ends {x = x} e q) zero b t = none_outcome i c x [] b t
-  searched_outcome i c (ends {x = x} e q) (suc m) b t =
-      subst⁻¹ (Outcome ids rest (x ∷ []) (suc m) b) (searched_ends i c b t m q)
-      (last_outcome x m b (next i c b) (subst (λ (y : ℕ). Under ids rest 64 y (next i c b)) e (ended i c b t)))
-  searched_outcome i c (goes {x = x} {l = l} k e q le more) zero b t = none_outcome i c x l b t
-  searched_outcome i c (goes {x = x} {l = l} k e q le more) (suc m) b t =
-      subst⁻¹ (Outcome ids rest (x ∷ l) (suc m) b) (searched_goes i c b t m x k e q)
+  -- the directions v are those of the pass after the ID i and the conflict c
+  outcome_by : (v : ℕ → Bool) {l : List ℕ} → Sequences (has ids) 64 0 0 v l → (i : ℕ) (c : Conflict) → v ≡ direction i c → (m : ℕ) (b : Bridge) → Idle ids rest b → Outcome ids rest l m b (searched m i c b)
+  outcome_by v (ends {x = x} e q) i c p zero b t = none_outcome i c x [] b t
+  outcome_by v (ends {x = x} e q) i c p (suc m) b t =
+      subst⁻¹ (Outcome ids rest (x ∷ []) (suc m) b)
+      (searched_ends i c b t m (subst (λ (d : ℕ → Bool). last (has ids) d 64 0 0 ≡ none) p q))
+      (last_outcome x m b (next i c b)
+      (subst (λ (y : ℕ). Under ids rest 64 y (next i c b)) (subst (λ (d : ℕ → Bool). ending (has ids) d 64 0 0 ≡ x) p e)
+      (ended i c b t)))
+  outcome_by v (goes {x = x} {l = l} k e q le more) i c p zero b t = none_outcome i c x l b t
+  outcome_by v (goes {x = x} {l = l} k e q le more) i c p (suc m) b t =
+      let e' = subst (λ (d : ℕ → Bool). ending (has ids) d 64 0 0 ≡ x) p e in
+      subst⁻¹ (Outcome ids rest (x ∷ l) (suc m) b)
+      (searched_goes i c b t m x k e' (subst (λ (d : ℕ → Bool). last (has ids) d 64 0 0 ≡ some k) p q))
       (more_outcome x m l b (next i c b) (searched m x (At k) (next i c b).bridge)
-      (subst (λ (y : ℕ). Under ids rest 64 y (next i c b)) e (ended i c b t))
-      (searched_outcome x (At k) (more (direction x (At k)) (λ j h. follows x k j)) m (next i c b).bridge
+      (subst (λ (y : ℕ). Under ids rest 64 y (next i c b)) e' (ended i c b t))
+      (outcome_by (direction x (At k)) (more (direction x (At k)) (λ j h. follows x k j)) x (At k) refl m (next i c b).bridge
       (under_idle (ended i c b t))))
+
+  pub searched_outcome : (i : ℕ) (c : Conflict) {l : List ℕ} → Sequences (has ids) 64 0 0 (direction i c) l → (m : ℕ) (b : Bridge) → Idle ids rest b → Outcome ids rest l m b (searched m i c b)
+  searched_outcome i c s = outcome_by (direction i c) s i c refl
+
+  enough_by : (v : ℕ → Bool) {l : List ℕ} → Sequences (has ids) 64 0 0 v l → (i : ℕ) (c : Conflict) → v ≡ direction i c → (m n : ℕ) → length l ≤ m → length l ≤ n → (b : Bridge) → Idle ids rest b → searched m i c b ≡ searched n i c b
+  enough_by v (ends e q) i c p zero n f g b t = absurd (omega arith)
+  enough_by v (ends e q) i c p (suc m) zero f g b t = absurd (omega arith)
+  enough_by v (ends e q) i c p (suc m) (suc n) f g b t =
+      let q' = subst (λ (d : ℕ → Bool). last (has ids) d 64 0 0 ≡ none) p q in
+      searched_ends i c b t m q' ∙ sym (searched_ends i c b t n q')
+  enough_by v (goes k e q le more) i c p zero n f g b t = absurd (omega arith)
+  enough_by v (goes k e q le more) i c p (suc m) zero f g b t = absurd (omega arith)
+  enough_by v (goes {x = x} k e q le more) i c p (suc m) (suc n) f g b t =
+      let e' = subst (λ (d : ℕ → Bool). ending (has ids) d 64 0 0 ≡ x) p e in
+      let q' = subst (λ (d : ℕ → Bool). last (has ids) d 64 0 0 ≡ some k) p q in
+      searched_goes i c b t m x k e' q'
+      ∙ ap (before x)
+      (enough_by (direction x (At k)) (more (direction x (At k)) (λ j h. follows x k j)) x (At k) refl m n (omega arith) (omega arith)
+      (next i c b).bridge (under_idle (ended i c b t)))
+      ∙ sym (searched_goes i c b t n x k e' q')
 
   -- as many passes as there are IDs are enough
   pub searched_enough : (i : ℕ) (c : Conflict) {l : List ℕ} → Sequences (has ids) 64 0 0 (direction i c) l → (m n : ℕ) → length l ≤ m → length l ≤ n → (b : Bridge) → Idle ids rest b → searched m i c b ≡ searched n i c b
-  searched_enough i c (ends e q) zero n f g b t = absurd (omega arith)
-  searched_enough i c (ends e q) (suc m) zero f g b t = absurd (omega arith)
-  searched_enough i c (ends e q) (suc m) (suc n) f g b t = searched_ends i c b t m q ∙ sym (searched_ends i c b t n q)
-  searched_enough i c (goes k e q le more) zero n f g b t = absurd (omega arith)
-  searched_enough i c (goes k e q le more) (suc m) zero f g b t = absurd (omega arith)
-  searched_enough i c (goes {x = x} k e q le more) (suc m) (suc n) f g b t =
-      searched_goes i c b t m x k e q
-      ∙ ap (before x)
-      (searched_enough x (At k) (more (direction x (At k)) (λ j h. follows x k j)) m n (omega arith) (omega arith)
-      (next i c b).bridge (under_idle (ended i c b t)))
-      ∙ sym (searched_goes i c b t n x k e q)
+  searched_enough i c s = enough_by (direction i c) s i c refl

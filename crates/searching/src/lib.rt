@@ -6,3 +6,5 @@
 //
 // Worked example: with A, B and C of document 01 fitted, the passes end at C, B and A, and a search that is allowed 4 does what one that
 // is allowed 3 does.
+
+#![tactic(auto)]
