@@ -4,6 +4,8 @@
 // F0h and 64 triplets, through the bridge's own calls with time passing after each.
 //
 // Worked example: with A, B and C fitted, b = 2 lists C and B and is not complete; b = 3 lists C, B, A, complete, in 3 passes.
+#![tactic(auto)]
+
 mod listing;
 mod passes;
 

@@ -1,0 +1,33 @@
+-- `search` meets its contract: by whether the list is long enough. More passes than the table has entries do nothing more, and that it has
+-- 64 is part of its type.
+use mathlib.Core.Path.{◌≡◌, sym, ap, ◌∙◌}
+use Prim.Native.Nat.{ℕ}
+use native.Mathlib.Omega.{arith}
+use lib.ListN.{length, length-map}
+use Rattle.pass.specs.Passes.{search as search_of, Result}
+use Rattle.search.specs.Search.{listed, written}
+use Rattle.searching.proofs.Facts.{search_capped}
+use Rattle.search.proofs.Call.{short, done}
+use borrow.Author.Rules.{rules}
+use Rattle.search.proofs.search.Goals as goal
+
+pub returns-then-list-allowed : goal.returns-then-list-allowed
+returns-then-list-allowed c =
+    let a = c.args in
+    let o = short a.b a.list.now a.bridge (omega arith) in
+    record { answer_value = sym o.answer; bridge_value = sym o.state; list_after = sym o.buffer }
+
+pub returns : goal.returns
+returns c =
+    let a = c.args in
+    let table : length a.bridge.line.probes ≡ 64 = omega arith in
+    let e =
+        ap (λ (n : ℕ). search_of n a.bridge) c.at_most-allowed.ensures
+        ∙ sym (search_capped a.bridge (omega (arith, table)) (omega (arith, table)) a.b) in
+    let o = done a.b a.list.now a.bridge (omega arith) in
+    let p = c.all.ensures in
+    record {
+      answer_value = p.answer_value.0 ∙ ap listed e ∙ sym o.answer;
+      bridge_value = p.answer_value.1 ∙ ap (λ (r : Result). r.bridge) e ∙ sym o.state;
+      list_after = p.list_after ∙ ap (λ (r : Result). written r.ids a.list.now) e ∙ sym o.buffer;
+    }
