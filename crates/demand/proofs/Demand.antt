@@ -9,7 +9,7 @@
 use mathlib.Core.Path.{◌≡◌, refl, sym, ap, ap₂, subst⁻¹, ◌∙◌}
 use mathlib.Core.Bool.{◌&&◌}
 use mathlib.Core.List.{List, [], ◌∷◌, ◌++◌, append-nil}
-use denote.Ref.{Bor}
+use denote.MutBor.{MutBor}
 use Prim.Native.Nat.{ℕ, zero, suc, ◌+◌, ◌*◌, ◌/◌, ◌%◌, ◌^◌, ◌<◌, ◌≤◌, min, max}
 use native.Mathlib.Nat.{pow-suc}
 use native.Mathlib.Decide.{dec_le}
@@ -247,8 +247,8 @@ fewer run other some sub meets s r =
 
 -- ---- the contract allows an outcome for every state, allowance and buffer
 
-lent : List ℕ → Bor (List ℕ)
-lent d = record { ref_ptr = (0, 0); now = d }
+lent : List ℕ → MutBor (List ℕ)
+lent d = record { ref_ptr = (0, 0); ghost_name = 0; now = d }
 
 pub promised_some : (s : Bridge) (b : ℕ) (d : List ℕ) → Promised s b d (outcome s b d)
 unfolding lent

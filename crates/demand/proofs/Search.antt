@@ -14,7 +14,7 @@ use native.Mathlib.Omega.{arith}
 use borrow.Author.Tests.{ne_eqb, eqb-false}
 use lib.Dec.{eqb, leb}
 use lib.ListN.{length, take, drop, length-append, length-take, take-append-drop}
-use lib.Seq.{take_take, take_all}
+use lib.Seq.{take-take, take_all}
 use Rattle.identity.specs.Identity.{number_of}
 use Rattle.probe.specs.declared.Condition.TheVariants.{Deaf, Selected}
 use Rattle.probe.specs.declared.Probe.{Probe}
@@ -55,7 +55,7 @@ last_one (y ∷ z ∷ l) h =
     (y ∷ r.0, r.1, ap {B = List ℕ} (λ (q : List ℕ). y ∷ q) r.2)
 
 take_longer : (m n : ℕ) (l : List ℕ) → m ≤ n → take n l ≡ take m l ++ drop m (take n l)
-take_longer m n l h = sym (take-append-drop m (take n l)) ∙ ap (λ (p : List ℕ). p ++ drop m (take n l)) (take_take m n l h)
+take_longer m n l h = sym (take-append-drop m (take n l)) ∙ ap (λ (p : List ℕ). p ++ drop m (take n l)) (take-take m n l h)
 
 -- ---- Resume
 

@@ -7,3 +7,5 @@
 // such a state. proofs/ show all of it, from the laws of the crate searching, which hold of any line, and from what calls can do to one.
 //
 // Worked example: with A, B and C of document 01 fitted, `order` is C, B, A; two passes list C and B, and then Resume selects B alone.
+
+#![tactic(auto)]

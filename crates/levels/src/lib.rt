@@ -6,3 +6,5 @@
 //
 // Worked example: with A, B and C of document 01 fitted, the first triplet of each pass shows 0,0, and every other one has at least one 0.
 // After Skip ROM, which is no search, a triplet shows 1,1.
+
+#![tactic(auto)]

@@ -6,3 +6,5 @@
 // most by one case that computes.
 //
 // Worked example: a search that sorts IDs as numbers lists A before B, where search order has B first.
+
+#![tactic(auto)]
