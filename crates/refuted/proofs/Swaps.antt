@@ -1,7 +1,7 @@
 -- A mark that is kept over withdrawing and fitting: one case, which computes.
 --   mark_kept_lem     on the line of A, which a Match ROM has marked
 use Prim.Native.Nat.{ℕ, suc}
-use mathlib.Core.Bool.{true, false, false≢true}
+use mathlib.Core.Bool.{true, false≢true}
 use mathlib.Core.List.{List, [], ◌∷◌}
 use mathlib.Core.List.Memᴰ
 use mathlib.Core.Path.{◌≡◌, refl}

@@ -14,7 +14,7 @@
 --   zero_after_ones        the bit of a triplet, 0 after levels 1,1
 --   triplet_by choose     the triplet with another rule of its bit
 --   uninverted q         the packet with its CRC-16 as the register has it
-use Rattle.std.specs.Prelude.{ℕ, zero, suc, ◌+◌, ◌*◌, ◌/◌, ◌%◌, min, Bool, true, false, cond, ◌&&◌, List, [], ◌∷◌, ◌++◌, ◌≡◌, leb, ltb, length, take}
+use Rattle.std.specs.Prelude.{ℕ, zero, suc, ◌*◌, ◌/◌, ◌%◌, min, Bool, true, false, cond, ◌&&◌, List, [], ◌∷◌, ◌++◌, ◌≡◌, leb, ltb, length, take}
 use Rattle.checksum.specs.Register.{crc16_of}
 use Rattle.line.specs.Line.{level, slot, present, after_reset}
 use Rattle.bridge.specs.declared.Bridge.{Bridge}

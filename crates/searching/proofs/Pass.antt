@@ -19,7 +19,7 @@ use lib.Dec.{ltb, lit<}
 use Rattle.probe.specs.Probe.{standard, digit, reset}
 use Rattle.line.specs.declared.Line.{Line}
 use Rattle.line.specs.Line.{level, slot, id_of, after_reset, present, slots}
-use Rattle.triplet_slots.specs.Triplet.{chosen, first_level, second_level, written_bit}
+use Rattle.triplet_slots.specs.Triplet.{chosen, first_level}
 use Rattle.bridge.specs.declared.Bridge.{Bridge}
 use Rattle.bridge.specs.declared.Pending.TheVariants.{Nothing, Reset, WriteByte, Triplet}
 use Rattle.bridge.proofs.Effects.{pended_speed, command_reset, command_write, command_triplet}

@@ -1,7 +1,6 @@
 -- `command` meets its contract: it is the two calls in a row.
 use mathlib.Core.Path.{ap}
 use Rattle.bridge.specs.Bridge.{after_time, command}
-use borrow.Author.Rules.{rules}
 use Rattle.pass.proofs.command.Goals as goal
 
 pub returns : goal.returns

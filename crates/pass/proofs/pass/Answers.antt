@@ -2,7 +2,6 @@
 use mathlib.Core.Path.{ap, ◌∙◌}
 use Rattle.bridge.specs.declared.Bridge.{Bridge}
 use Rattle.pass.specs.Pass.{begun, walked, passed}
-use borrow.Author.Rules.{rules}
 use Rattle.pass.proofs.pass.Goals as goal
 
 pub returns : goal.returns

@@ -1,12 +1,12 @@
 -- `triplets` meets its contract: what is left of the walk is the triplets from bit k on.
 use mathlib.Core.Path.{◌≡◌, refl, sym, ap, ◌∙◌}
 use mathlib.Core.List.{[], ◌∷◌}
-use Prim.Native.Nat.{ℕ, ◌^◌, ◌<◌, ◌≤◌, ◌-◌}
+use Prim.Native.Nat.{ℕ}
 use native.Mathlib.Omega.{arith}
 use lib.Dec.{lit<}
 use Rattle.bridge.specs.Bridge.{command}
 use Rattle.pass.specs.declared.Walk.{Walk}
-use Rattle.pass.specs.Pass.{walked, begun, triplet_byte}
+use Rattle.pass.specs.Pass.{triplet_byte}
 use Rattle.pass.proofs.Walked.{tripled_by, walked_next, walked_none}
 use borrow.Author.Rules.{rules}
 use Rattle.pass.proofs.triplets.Goals as goal

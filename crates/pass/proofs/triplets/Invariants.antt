@@ -1,13 +1,6 @@
-use mathlib.Core.Path.{◌≡◌, refl, sym, ap, ◌∙◌}
-use mathlib.Core.List.{[], ◌∷◌}
-use Prim.Native.Nat.{ℕ, ◌^◌, ◌<◌, ◌≤◌, ◌-◌}
-use native.Mathlib.Omega.{arith}
-use lib.Dec.{lit<}
-use Rattle.bridge.specs.Bridge.{command}
-use Rattle.pass.specs.declared.Walk.{Walk}
-use Rattle.pass.specs.Pass.{walked, begun, triplet_byte}
-use Rattle.pass.proofs.Walked.{tripled_by, walked_next, walked_none}
-use borrow.Author.Rules.{rules}
+use mathlib.Core.Path.{◌≡◌}
+use Prim.Native.Nat.{◌^◌, ◌<◌, ◌≤◌, ◌-◌}
+use Rattle.pass.specs.Pass.{walked, begun}
 use Rattle.pass.proofs.triplets.Given as goal
 
 abbrev pub invariant-loop-k : goal.invariant-loop-k

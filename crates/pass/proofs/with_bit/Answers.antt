@@ -6,7 +6,6 @@ use native.Mathlib.Numerals.{add-one}
 use native.Mathlib.Omega.{arith}
 use lib.Pow.{pow_mono, shl_exact}
 use lib.Dec.{lit<}
-use borrow.Author.Rules.{rules}
 use Rattle.pass.proofs.with_bit.Goals as goal
 
 -- the bit by itself

@@ -3,12 +3,11 @@
 use mathlib.Core.Path.{◌≡◌, sym, ap, ◌∙◌}
 use Prim.Native.Nat.{ℕ}
 use native.Mathlib.Omega.{arith}
-use lib.ListN.{length, length-map}
+use lib.ListN.{length}
 use Rattle.pass.specs.Passes.{search as search_of, Result}
 use Rattle.search.specs.Search.{listed, written}
 use Rattle.searching.proofs.Facts.{search_capped}
 use Rattle.search.proofs.Call.{short, done}
-use borrow.Author.Rules.{rules}
 use Rattle.search.proofs.search.Goals as goal
 
 pub returns-then-list-allowed : goal.returns-then-list-allowed
@@ -22,8 +21,8 @@ returns c =
     let a = c.args in
     let table : length a.bridge.line.probes ≡ 64 = omega arith in
     let e =
-        ap (λ (n : ℕ). search_of n a.bridge) c.at_most-allowed.ensures
-        ∙ sym (search_capped a.bridge (omega (arith, table)) (omega (arith, table)) a.b) in
+    ap (λ (n : ℕ). search_of n a.bridge) c.at_most-allowed.ensures
+    ∙ sym (search_capped a.bridge (omega (arith, table)) (omega (arith, table)) a.b) in
     let o = done a.b a.list.now a.bridge (omega arith) in
     let p = c.all.ensures in
     record {

@@ -1,14 +1,13 @@
 -- `listing::put` meets its contract: after k turns the first k bytes of the ID lie at the place, and all other bytes are as they were.
 use mathlib.Core.Path.{◌≡◌, refl, sym, ap, ap₂, ◌∙◌}
 use mathlib.Core.List.{List}
-use Prim.Native.Nat.{ℕ, ◌+◌, ◌≤◌, ◌-◌}
+use Prim.Native.Nat.{ℕ, ◌+◌}
 use native.Mathlib.Omega.{arith}
 use native.Mathlib.Numerals.{add-one}
-use lib.ListN.{length, get_or, set, length-set}
+use lib.ListN.{get_or, set, length-set}
 use lib.Seq.{paste, paste-zero, paste-suc}
 use Rattle.search.specs.Search.{bytes_from}
 use Rattle.search.proofs.Bytes.{length_bytes_from, get_d_bytes_from}
-use borrow.Author.Rules.{rules}
 use Rattle.search.proofs.listing.put.Goals as goal
 
 pub loop-k-init : goal.loop-k-init

@@ -8,7 +8,6 @@ use Rattle.pass.specs.declared.Conflict.TheVariants.{Nowhere}
 use Rattle.pass.specs.Passes.{Result, search as search_of, searched, exhausted}
 use Rattle.search.specs.Search.{listed, written, list_of}
 use Rattle.search.proofs.Onward.{stands}
-use borrow.Author.Rules.{rules}
 use Rattle.search.proofs.passes.all.Goals as goal
 
 none : (n : ℕ) (b : Bridge) → n ≡ 0 → search_of n b ≡ exhausted b
