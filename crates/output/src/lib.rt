@@ -3,6 +3,8 @@
 // The run refuses a malformed script and leaves the buffer; here its number becomes the line that is printed.
 //
 // Worked example: for 00 05 1F 04 6D 24 it is the five lines of the run; for no byte at all it is 15 and a newline.
+#![tactic(auto)]
+
 ghost use Rattle.std.specs.Prelude.{[], ◌∷◌, ◌++◌, ◌≡◌, ◌<◌, ◌≤◌, length, drop};
 ghost use Rattle.transcript.specs.Text.{Put, pair_of};
 ghost use Rattle.output.specs.Output.{transcript_of};

@@ -4,11 +4,11 @@
 --   put_same            by another name of the text
 --   put_front           text at the front of the buffer
 --   put_two, put_three  two stores, and three
---   digits_one, digits-pair     a number of one digit, and of two
+--   digits_one, digits_pair     a number of one digit, and of two
 --   digits_hundreds     a number of more: what stands before its last two digits, and those
 --   length_decimal      five digits at most
---   hex_digit_low, -high         a digit below 10, and a letter
---   behind_number_lem, behind-byte  what stands behind an event's number, for a number below 10 and for a byte
+--   hex_digit_low, _high         a digit below 10, and a letter
+--   behind_number_lem, behind_byte  what stands behind an event's number, for a number below 10 and for a byte
 use mathlib.Core.Path.{◌≡◌, refl, sym, ap, ap₂, ◌∙◌, subst}
 use mathlib.Core.Bool.{Bool, true, false, cond}
 use mathlib.Core.List.{List, [], ◌∷◌, ◌++◌, append_assoc}

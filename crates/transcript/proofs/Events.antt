@@ -1,12 +1,12 @@
 -- The run of a script, event by event.
---   step_write, -read, -wait, -fit       what an event of each kind gives
+--   step_write, _read, _wait, _fit       what an event of each kind gives
 --   after_time_idle                       time passing with nothing pending changes nothing
 --   line_of_text                          its line
 --   script_number_case                    the number of a script and of any other bytes
 --   run_number_is, run_values_is           the run's number, and how many bytes it writes
 --   write_number_lt, fit_number_lt         the numbers printed have one digit
 --   Runs                                 the lines left to print bring the buffer to what is promised
---   runs_first, runs-next, runs_last     where no event has run, one event more, and where all have
+--   runs_first, runs_next, runs_last     where no event has run, one event more, and where all have
 use mathlib.Core.Path.{◌≡◌, refl, sym, ap, ap₂, ◌∙◌}
 use mathlib.Core.Bool.{Bool, true, false, cond}
 use mathlib.Core.List.{List, [], ◌∷◌, ◌++◌, append_assoc}

@@ -4,6 +4,8 @@
 // number from 1, its letter, and the byte read or the number of the answer. A malformed script is refused with 15 and nothing runs.
 //
 // Worked example: for 00 05 1F 04 6D 24 the lines are 1 W 0, 2 R 18, 3 W 0, 4 T 0 and 5 R 18, which are 32 bytes.
+#![tactic(auto)]
+
 mod text;
 
 ghost use Rattle.std.specs.Prelude.{◌≡◌, true, ◌+◌, ◌≤◌, length, take};
