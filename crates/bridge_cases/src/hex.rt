@@ -1,5 +1,5 @@
 // Bytes that are written as pairs of hexadecimal digits. Everything else in the text is passed over.
-ghost use Rattle.std.specs.Prelude.{◌≤◌, ◌*◌, length};
+ghost use Rattle.std.specs.Prelude.{◌≡◌, ◌≤◌, ◌*◌, length, take};
 
 fn value(c: u8) -> u8 {
     match c {
@@ -27,7 +27,7 @@ fn digit(out: &mut [u8], k: usize, c: u8) -> usize
 
 // Puts as many bytes at the start of out as it has room for, and answers how many.
 pub(crate) fn decode(text: &[u8], out: &mut [u8]) -> usize
-    ensures { result ≤ length out.new }
+    ensures { (result ≤ length out.new) × (result ≡ length (take result out.new)) }
 {
     let mut k = 0;
     let mut i = 0;
