@@ -1,8 +1,8 @@
 -- Where a `match` leaves places out, those that are left are told by their numbers among the variants.
 --   not_over_lem        any other place is not over
 --   not_answering_lem   at any other place the chip sends nothing
---   gathers         at any other place it gathers
---   stays           behind its packet or its answer it stays as it is
+--   gathers             at any other place it gathers
+--   stays               behind its packet or its answer it stays as it is
 --   is_code_lem         one of the three codes; no_code, none of them
 use mathlib.Core.Path.{◌≡◌, refl}
 use mathlib.Core.Bool.{Bool, true, false}

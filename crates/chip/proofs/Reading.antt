@@ -1,8 +1,8 @@
 -- The bytes read, one by one.
---   length_read   there are as many as were asked for
---   read_at       the m-th is the register m steps on
---   read_behind   behind them there are none
---   behind_first  what stands behind the first of a list
+--   length_read    there are as many as were asked for
+--   read_at        the m-th is the register m steps on
+--   read_behind    behind them there are none
+--   behind_first   what stands behind the first of a list
 use mathlib.Core.Path.{◌≡◌, refl, ap, ◌∙◌}
 use Prim.Native.Nat.{ℕ, zero, suc, ◌+◌, ◌-◌, ◌%◌, ◌<◌, ◌≤◌}
 use mathlib.Core.List.{List, ◌∷◌}

@@ -1,14 +1,14 @@
 -- A probe of the second kind, a DS28E17 with one sensor, once it is selected (document 02, R-7).
---   none               what stands for a probe of the old kind
---   new_chip a          a chip at fitting, with the address a
---   is_chip c           c is no probe of the old kind
---   emptied c          c with nothing gathered
---   took_byte x c       c once a byte of its packet is whole
---   gathered l c       c after a slot of level l in which it gathers
---   answer_of t a       the bytes of its answer to what was asked, where t is the status
---   sends c            what c lets the line be in a slot: false where it sends 0, true where it sends 1 or nothing
---   heard l c          c after a slot of level l
---   is_over c           its packet is none, or its answer is over: the chip is deaf
+--   none            what stands for a probe of the old kind
+--   new_chip a      a chip at fitting, with the address a
+--   is_chip c       c is no probe of the old kind
+--   emptied c       c with nothing gathered
+--   took_byte x c   c once a byte of its packet is whole
+--   gathered l c    c after a slot of level l in which it gathers
+--   answer_of t a   the bytes of its answer to what was asked, where t is the status
+--   sends c         what c lets the line be in a slot: false where it sends 0, true where it sends 1 or nothing
+--   heard l c       c after a slot of level l
+--   is_over c       its packet is none, or its answer is over: the chip is deaf
 use Rattle.std.specs.Prelude.{ℕ, ◌+◌, ◌-◌, ◌*◌, ◌/◌, ◌%◌, Bool, true, false, cond, List, [], ◌∷◌, ◌++◌, eqb, leb, ltb, length, get_or}
 use Rattle.checksum.specs.Register.{taps16, entered}
 use Rattle.identity.specs.Identity.{bit_of}

@@ -1,11 +1,11 @@
 -- The sensor behind a probe of the second kind (document 02, R-7): 16 registers, and a pointer to one of them.
 --   zeroed           the sensor at fitting
---   pointed_to x s    s after the first byte of a write
---   stored_one x s    s after one of the later bytes
+--   pointed_to x s   s after the first byte of a write
+--   stored_one x s   s after one of the later bytes
 --   stored d s       s after the later bytes d
 --   written d s      s after a write of the bytes d
 --   stepped n s      s after n bytes have been read from it
---   read_from n s     those bytes
+--   read_from n s    those bytes
 use Rattle.std.specs.Prelude.{ℕ, zero, suc, ◌+◌, ◌%◌, List, [], ◌∷◌, get_or, set, replicate}
 use Rattle.chip.specs.declared.Sensor.{Sensor}
 

@@ -61,6 +61,7 @@ impl Asked {
         self
     }
 
+    #[tactic(auto, unfolding(crate::specs::Chip::took_code))]
     pub(crate) fn took_code(mut self, x: u8) -> Packet
         ensures { result ≡ took_code x self }
     {
@@ -178,6 +179,7 @@ impl Asked {
     }
 
     // The n-th byte of the answer; behind the answer come ones.
+    #[tactic(auto, using(crate::proofs::Reading::behind_first), unfolding(crate::specs::Chip::answer_of))]
     fn answer_byte(self, status: u8, n: u16) -> u8
         ensures { result ≡ get_or (answer_of status self) n 255 }
     {
@@ -206,6 +208,7 @@ impl Asked {
     }
 
     // How many slots the answer takes.
+    #[tactic(auto, using(crate::proofs::Reading::length_read), unfolding(crate::specs::Chip::answer_of))]
     pub(crate) fn slots(self, status: u8) -> u16
         ensures { result ≡ slots_of status self }
     {

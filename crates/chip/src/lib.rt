@@ -6,6 +6,8 @@
 //
 // Worked example: the chip of address 20h whose register 0 holds 5Ah takes 87 41 01 and their CRC, and sends 1, 0, the bits of 00h and the
 // bits of 5Ah.
+#![tactic(auto)]
+
 mod form;
 mod registers;
 
@@ -182,6 +184,7 @@ impl Chip {
     }
 
     // A byte of the packet is whole.
+    #[tactic(auto, unfolding(crate::specs::Chip::took_byte, crate::specs::Chip::took_at))]
     fn took_byte(self, x: u8) -> Chip
         ensures { result ≡ took_byte x self }
     {
@@ -205,6 +208,7 @@ impl Chip {
     }
 
     // One level more of the packet. The eighth makes a byte whole.
+    #[tactic(auto, unfolding(crate::specs::Chip::gathered))]
     fn gathered(self, level: bool) -> Chip
         ensures { result ≡ gathered level self }
     {
@@ -219,6 +223,7 @@ impl Chip {
     }
 
     // What the chip lets the line be in a slot that it listens to: false where it sends 0, true where it sends 1 or nothing.
+    #[tactic(auto, unfolding(crate::specs::Chip::sends, crate::specs::Chip::sends_in))]
     pub fn sends(self) -> bool
         ensures { result ≡ sends self }
     {
@@ -232,6 +237,7 @@ impl Chip {
     }
 
     // A slot of the answer has passed.
+    #[tactic(auto, unfolding(crate::specs::Chip::answered))]
     fn answered(self, status: u8, slot: u16) -> Chip
         ensures { result ≡ answered status slot self }
     {
@@ -248,6 +254,7 @@ impl Chip {
     }
 
     // The chip after a slot of this level that it listened to.
+    #[tactic(auto, unfolding(crate::specs::Chip::heard, crate::specs::Chip::heard_in))]
     pub fn heard(self, level: bool) -> Chip
         ensures { result ≡ heard level self }
     {
@@ -261,6 +268,7 @@ impl Chip {
     }
 
     // The packet was none, or the answer is over: the chip is deaf.
+    #[tactic(auto, unfolding(crate::specs::Chip::is_over, crate::specs::Chip::over_at))]
     pub fn over(self) -> bool
         ensures { result ≡ is_over self }
     {

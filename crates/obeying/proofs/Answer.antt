@@ -1,11 +1,11 @@
 -- The answer, slot by slot.
---   length_levels, length-answer    how many slots bytes take, and an answer
---   sent_in_then        two lists of slots, one after the other
---   reply, ended       the chip before a slot of its answer, and behind the answer
---   replied            the chip after some slots; replied-within, replied-past, by their number
---   answers            what it sends
---   never_over         behind a status that is not 0 it is never deaf
---   over_stays         a chip that is deaf stays so
+--   length_levels, length_answer   how many slots bytes take, and an answer
+--   sent_in_then                   two lists of slots, one after the other
+--   reply, ended                   the chip before a slot of its answer, and behind the answer
+--   replied                        the chip after some slots; replied_within, replied_past, by their number
+--   answers                        what it sends
+--   never_over                     behind a status that is not 0 it is never deaf
+--   over_stays                     a chip that is deaf stays so
 use mathlib.Core.Path.{◌≡◌, refl, sym, ap, ap₂, ◌∙◌}
 use mathlib.Core.Bool.{Bool, true, false, cond}
 use mathlib.Core.List.{List, [], ◌∷◌, ◌++◌}

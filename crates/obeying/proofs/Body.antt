@@ -1,12 +1,12 @@
 -- The bytes of a packet, one after the other.
---   Taken s c e        after the bytes s the chip c is e, and it waited until the last of their slots
---   crc_from_then       the CRC of two lists, one behind the other
---   asking             what has been asked so far
---   at_place            a chip at a place of its packet
---   taken_then         one byte, and then others; last_taken, one byte and no other
---   data_taken         the data, behind which other bytes come
---   code_taken, address-taken, length_taken, count-taken, reads-taken    each other byte, behind which others come
---   seal_taken         the two last
+--   Taken s c e     after the bytes s the chip c is e, and it waited until the last of their slots
+--   crc_from_then   the CRC of two lists, one behind the other
+--   asking          what has been asked so far
+--   at_place        a chip at a place of its packet
+--   taken_then      one byte, and then others; last_taken, one byte and no other
+--   data_taken      the data, behind which other bytes come
+--   code_taken      each other byte, behind which others come; address_taken, length_taken, count_taken, reads_taken
+--   seal_taken      the two last
 use mathlib.Core.Path.{◌≡◌, refl, subst}
 use mathlib.Core.Bool.{true, false, cond}
 use mathlib.Core.List.{List, [], ◌∷◌, ◌++◌}

@@ -1,10 +1,10 @@
 -- Eight levels are a byte.
---   levels_byte        the levels of a byte, gathered, are the byte
---   Waits s ls c       the chip c waits before each of the levels ls; waits-take, before one of them
---   hearing_then       two lists of levels, one after the other
---   Heard s ls c e     after the levels ls the chip c is e, and it waited until the last of them; heard-then, two lists of levels
---   gathers p          at the place p a byte of a packet is gathered
---   byte_heard         the levels of a byte, heard at such a place
+--   levels_byte      the levels of a byte, gathered, are the byte
+--   Waits s ls c     the chip c waits before each of the levels ls; waits_take, before one of them
+--   hearing_then     two lists of levels, one after the other
+--   Heard s ls c e   after the levels ls the chip c is e, and it waited until the last of them; heard_then, two lists of levels
+--   gathers p        at the place p a byte of a packet is gathered
+--   byte_heard       the levels of a byte, heard at such a place
 use mathlib.Core.Path.{◌≡◌, refl, sym, ap, subst, ◌∙◌}
 use mathlib.Core.Bool.{Bool, true, false, false≢true}
 use mathlib.Core.List.{List, [], ◌∷◌, ◌++◌}

@@ -1,10 +1,10 @@
 -- What the bytes of a packet mean.
---   inverted_lt                     the CRC as it is sent is two bytes
---   seal_right, seal-wrong          the chip's test of the two last bytes
---   own_body, chip-byte             the address byte of the library's packet, and the one that the chip acknowledges
---   byte_lt, byte-inj               it is a byte, and no other address has it
---   code_lt, code-known             the first byte is one that the chip knows
---   done, answered                  what the chip does and answers is what the request means
+--   inverted_lt              the CRC as it is sent is two bytes
+--   seal_right, seal_wrong   the chip's test of the two last bytes
+--   own_body, chip_byte      the address byte of the library's packet, and the one that the chip acknowledges
+--   byte_lt, byte_inj        it is a byte, and no other address has it
+--   code_lt, code_known      the first byte is one that the chip knows
+--   done, answered           what the chip does and answers is what the request means
 use mathlib.Core.Path.{◌≡◌, refl, ap, ap₂}
 use mathlib.Core.Bool.{true, false, ◌&&◌}
 use mathlib.Core.List.{List, [], ◌∷◌}
@@ -47,7 +47,7 @@ own_body (write a d) = refl
 own_body (read a r) = refl
 own_body (write_read a d r) = refl
 
-pub chip_byte : (q : Request) (a : ℕ) → chip.addressByte (code_of q) a ≡ address_byte q a
+pub chip_byte : (q : Request) (a : ℕ) → chip.address_byte (code_of q) a ≡ address_byte q a
 unfolding code_of body_of address_byte
 chip_byte (write b d) a = omega arith
 chip_byte (read b r) a = refl

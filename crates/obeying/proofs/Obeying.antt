@@ -1,10 +1,10 @@
 -- The sentences of R-7: what the library forms is what the chip obeys.
---   from_start        a chip that is just selected is at the first place of its packet
---   whole_taken       the chip when its packet is whole, by the status
---   obeyed            status 0
---   refused           any other: spoilt, wrong_byte, strange
---   ignored           no status: unknown, no_count, no_reads
---   obeying           all the sentences
+--   from_start    a chip that is just selected is at the first place of its packet
+--   whole_taken   the chip when its packet is whole, by the status
+--   obeyed        status 0
+--   refused       any other: spoilt, wrong_byte, strange
+--   ignored       no status: unknown, no_count, no_reads
+--   obeying       all the sentences
 use mathlib.Core.Path.{◌≡◌, refl, sym, ap, ap₂, subst, ◌∙◌}
 use mathlib.Core.Bool.{Bool, true, false, cond}
 use mathlib.Core.List.{List, [], ◌∷◌, ◌++◌}
@@ -53,7 +53,7 @@ with_sensor s c = record { address = c.address; sensor = s; packet = c.packet }
 -- the status of the body of q with the address byte y and two bytes behind it
 abbrev status_of : Request → ℕ → ℕ → ℕ → Chip → ℕ
 status_of q y low high c =
-    status_for (eqb (low + 256 * high) (65535 - crc16_of (addressed_by y q))) (eqb y (chip.addressByte (code_of q) c.address))
+    status_for (eqb (low + 256 * high) (65535 - crc16_of (addressed_by y q))) (eqb y (chip.address_byte (code_of q) c.address))
 
 whole_taken : (c : Chip) → JustSelected c → (q : Request) → Fair q → (y low high : ℕ) → y < 256 → low < 256 → high < 256 → (t : ℕ) → status_of q y low high c ≡ t → (s : Sensor) → sensor_for t (asked_by q y c.sensor) c.sensor ≡ s → Taken (addressed_by y q ++ low ∷ high ∷ []) c (at_place (with_sensor s c) (Answering t 0) (asked_by q y c.sensor))
 unfolding whole
@@ -141,7 +141,7 @@ unfolding status_for
 spoilt q fair c new y low high yb lb hb bad =
     refused 1 refl (addressed_by y q ++ low ∷ high ∷ []) c (asked_by q y c.sensor)
     (whole_taken c new q fair y low high yb lb hb 1
-    (ap (λ (r : Bool). status_for r (eqb y (chip.addressByte (code_of q) c.address))) (seal_wrong (addressed_by y q) low high lb bad))
+    (ap (λ (r : Bool). status_for r (eqb y (chip.address_byte (code_of q) c.address))) (seal_wrong (addressed_by y q) low high lb bad))
     c.sensor (sensor_kept 1 refl _ c.sensor))
 
 wrong_byte : (q : Request) → Fair q → (c : Chip) → JustSelected c → (y : ℕ) → y < 256 → (y ≡ address_byte q c.address → ⊥) → Refused 2 (addressed_by y q ++ seal_of (addressed_by y q)) c
@@ -149,7 +149,7 @@ unfolding status_for seal_of
 wrong_byte q fair c new y yb bad =
     refused 2 refl (addressed_by y q ++ seal_of (addressed_by y q)) c (asked_by q y c.sensor)
     (whole_taken c new q fair y (n % 256) (n / 256) yb (omega arith) (omega (arith, inverted_lt (addressed_by y q))) 2
-    (ap₂ status_for (seal_right (addressed_by y q)) (ne_eqb y (chip.addressByte (code_of q) c.address) (λ e. bad (e ∙ chip_byte q c.address))))
+    (ap₂ status_for (seal_right (addressed_by y q)) (ne_eqb y (chip.address_byte (code_of q) c.address) (λ e. bad (e ∙ chip_byte q c.address))))
     c.sensor (sensor_kept 2 refl _ c.sensor))
   where
     n : ℕ

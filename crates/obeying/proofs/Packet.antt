@@ -1,8 +1,8 @@
 -- The packet of a request.
---   asked_by q y m      what the body of q, with the address byte y, asks of the sensor m
---   writing_taken      the bytes of a packet that writes, up to its data
---   body_taken         the bytes of a body
---   packet_taken       and two more
+--   asked_by q y m   what the body of q, with the address byte y, asks of the sensor m
+--   writing_taken    the bytes of a packet that writes, up to its data
+--   body_taken       the bytes of a body
+--   packet_taken     and two more
 use mathlib.Core.Path.{◌≡◌, refl, subst}
 use mathlib.Core.Bool.{Bool, true, false, ◌&&◌, and-eq-true_iff}
 use mathlib.Core.List.{List, [], ◌∷◌, ◌++◌, append_assoc}

@@ -1,30 +1,30 @@
 -- What the library forms is what the chip obeys (document 02, R-7).
 --   done_by q s         the sensor after the request q
 --   read_by q s         the bytes that q reads
---   write_status_to q    the write status, for a request that writes
+--   write_status_to q   the write status, for a request that writes
 --   answer_to q s       the bytes of the answer to q
 --   address_of q        the address that q goes to
 --   address_byte q a    the second byte of its packet, if it goes to the address a
 --   code_of q           the first byte of its packet
 --   data_of q           the bytes that q writes
---   Bytes s            every element of s is a byte
---   Fair q             q is within its limits, and what it writes are bytes
+--   Bytes s             every element of s is a byte
+--   Fair q              q is within its limits, and what it writes are bytes
 --   levels_of s         the levels of the bytes s on the line
---   hearing ls c       the chip c after slots of the levels ls
+--   hearing ls c        the chip c after slots of the levels ls
 --   sent_in ls c        what it sends in them
---   after s c          the chip c after the bytes s
---   JustSelected c     c has been selected, and no slot has come since
---   Waiting s c        c gathers, and its sensor is s
---   Gathers s c        c waits until the last slot of the bytes s
---   polls              the two slots before an answer
+--   after s c           the chip c after the bytes s
+--   JustSelected c      c has been selected, and no slot has come since
+--   Waiting s c         c gathers, and its sensor is s
+--   Gathers s c         c waits until the last slot of the bytes s
+--   polls               the two slots before an answer
 --   answer_in s         the levels of an answer of the bytes s
---   Answers s t c      c answers with the bytes s, and its sensor is t
---   Obeyed q c         c does what q asks
+--   Answers s t c       c answers with the bytes s, and its sensor is t
+--   Obeyed q c          c does what q asks
 --   status_alone t      the bytes of an answer with the status t, which is not 0
---   Refused t s c      c answers the bytes s with the status t alone
---   Ignored s c        the last of the bytes s makes c deaf
+--   Refused t s c       c answers the bytes s with the status t alone
+--   Ignored s c         the last of the bytes s makes c deaf
 --   addressed_by y q    the body of the packet of q with the address byte y
---   Obeying            the sentences of R-7
+--   Obeying             the sentences of R-7
 use Rattle.std.specs.Prelude.{ℕ, ◌+◌, ◌*◌, ◌<◌, ◌≤◌, Bool, true, false, List, [], ◌∷◌, ◌++◌, ◌≡◌, length, get_or, take, set, replicate}
 use Rattle.identity.specs.Identity.{bit_of}
 use Rattle.packet.specs.Request.{Request, write, read, write_read, body_of, seal_of, packet_of}

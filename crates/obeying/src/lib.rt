@@ -7,3 +7,5 @@
 // Worked example: the chip of address 20h whose register 0 holds 5Ah, and whose pointer is 0, is just selected. The 40 levels of 87 41 01
 // and their CRC leave its pointer at 1. In the 18 slots that follow it sends 1, 0, the bits of 00h and those of 5Ah, whatever the levels
 // are, and then it is deaf.
+
+#![tactic(auto)]
