@@ -5,6 +5,8 @@
 // slot is the line's own.
 //
 // Worked example: a chip that is in the second poll slot of its answer leaves the line at 0 in a slot in which the bridge writes 1.
+#![tactic(auto)]
+
 ghost use Rattle.std.specs.Prelude.{◌≡◌, true, ◌+◌, ◌*◌, ◌/◌, ◌≤◌, ◌<◌, length, take};
 ghost use Rattle.probe.specs.Probe.{in_condition, digit};
 ghost use Rattle.probe.specs.declared.Condition.TheVariants.{Deaf};
@@ -81,6 +83,7 @@ impl Chips {
 }
 
 // The probe is a chip that is selected, and a slot at this speed reaches it.
+#[tactic(auto, unfolding(crate::specs::Wire::listens, crate::specs::Wire::is_selected))]
 fn listening(p: Probe, c: Chip, speed: u32) -> bool
     ensures { result ≡ listens speed p c }
 {
@@ -324,6 +327,7 @@ pub fn without(line: Line, chips: Chips, id: u64) -> Chips
 // ---- slots that are the line's alone
 
 // Which of the 192 slots of a search comes next.
+#[tactic(auto, unfolding(crate::specs::Calm::slot_of))]
 fn slot_of(bit: u8, slot: Slot) -> u16
     ensures { (result ≡ slot_of bit slot) × (result < 1000) }
 {
@@ -335,6 +339,7 @@ fn slot_of(bit: u8, slot: Slot) -> u16
 }
 
 // The probe is not selected before any of the next n slots. Of conditions that calls do not reach it may say less than it could.
+#[tactic(auto, using(crate::proofs::Listens::calm_some), unfolding(crate::specs::Calm::calm, crate::specs::Calm::calm_in))]
 fn calm(p: Probe, n: u8) -> bool
     ensures { result ≡ calm n p }
 {
