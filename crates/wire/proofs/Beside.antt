@@ -1,6 +1,6 @@
 -- Two tables side by side whose first entries have been gone through.
 --   paired_at       an entry that is still to come is as it was
---   paired_next     one entry more; paired-kept, one that stays as it is
+--   paired_next     one entry more; paired_kept, one that stays as it is
 --   paired_length   as many as there were
 --   both_all_next    one pair more passes the test; both_all_fails, one fails it
 use mathlib.Core.Path.{◌≡◌, refl, sym, ap}

@@ -46,7 +46,8 @@ calm_less zero p e = refl
 calm_less (suc n) p e = less (suc n) p.condition e
 
 -- of two probes by a test, where either is calm
-either : (n : ℕ) (t : Bool) (p q : Probe) → calm_in n p.condition ≡ true → calm_in n q.condition ≡ true → calm_in n (cond t p q).condition ≡ true
+either : (n : ℕ) (t : Bool) (p q : Probe) → calm_in n p.condition ≡ true → calm_in n q.condition ≡ true
+    → calm_in n (cond t p q).condition ≡ true
 either n true p q a b = a
 either n false p q a b = b
 
@@ -70,8 +71,9 @@ module _ (n : ℕ) (x : Bool) (p : Probe) where
   unfolding calm_in took_matching
   matching k f e =
       let h = leb-true (k + suc (suc n)) 64 e in
-      either (suc n) (agrees x p.id k) (cond (leb 63 k) (with_mark p true Selected) (in_condition p (Matching (k + 1) f))) (differed f p)
-      (ap (λ (t : Bool). calm_in (suc n) (cond t (with_mark p true Selected) (in_condition p (Matching (k + 1) f))).condition) (lt-leb 63 k (omega (arith, h)))
+      let more = in_condition p (Matching (k + 1) f) in
+      either (suc n) (agrees x p.id k) (cond (leb 63 k) (with_mark p true Selected) more) (differed f p)
+      (ap (λ (t : Bool). calm_in (suc n) (cond t (with_mark p true Selected) more).condition) (lt-leb 63 k (omega (arith, h)))
       ∙ le-leb (k + 1 + suc n) 64 (omega (arith, h)))
       refl
 
@@ -81,8 +83,9 @@ module _ (n : ℕ) (x : Bool) (p : Probe) where
   searching k Second e = le-leb (slot_of k Third + suc n) 192 (omega (arith, leb-true (slot_of k Second + suc (suc n)) 192 e))
   searching k Third e =
       let h = leb-true (slot_of k Third + suc (suc n)) 192 e in
-      either (suc n) (agrees x p.id k) (cond (leb 63 k) (with_mark p true Selected) (in_condition p (Searching (k + 1) First))) (in_condition p Deaf)
-      (ap (λ (t : Bool). calm_in (suc n) (cond t (with_mark p true Selected) (in_condition p (Searching (k + 1) First))).condition) (lt-leb 63 k (omega (arith, h)))
+      let more = in_condition p (Searching (k + 1) First) in
+      either (suc n) (agrees x p.id k) (cond (leb 63 k) (with_mark p true Selected) more) (in_condition p Deaf)
+      (ap (λ (t : Bool). calm_in (suc n) (cond t (with_mark p true Selected) more).condition) (lt-leb 63 k (omega (arith, h)))
       ∙ le-leb (slot_of (k + 1) First + suc n) 192 (omega (arith, h)))
       refl
 

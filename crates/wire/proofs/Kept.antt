@@ -41,7 +41,8 @@ module _ (i : ℕ) where
   passed (p ∷ ps) (c ∷ cs) zero d h e = ap (λ (t : Bool). cond t [] (c ∷ [])) e
   passed (p ∷ ps) (c ∷ cs) (suc j) d h e = ap (λ (r : List Chip). cond (eqb i p.id) r (c ∷ r)) (passed ps cs j d (omega arith) e)
 
-  stays : (ps : List Probe) (cs : List Chip) (j : ℕ) (d : Probe) (b : Chip) → j < length ps → j < length cs → eqb i (get_or ps j d).id ≡ false
+  stays : (ps : List Probe) (cs : List Chip) (j : ℕ) (d : Probe) (b : Chip) → j < length ps → j < length cs
+      → eqb i (get_or ps j d).id ≡ false
       → kept i (take (suc j) ps) cs ≡ kept i (take j ps) cs ++ get_or cs j b ∷ []
   unfolding kept
   stays [] cs j d b h k e = absurd (omega arith)
@@ -54,7 +55,8 @@ module _ (i : ℕ) where
       rest : List Chip
       rest = kept i (take j ps) cs
 
-      go : (t : Bool) → cond t (rest ++ get_or cs j b ∷ []) (c ∷ (rest ++ get_or cs j b ∷ [])) ≡ cond t rest (c ∷ rest) ++ get_or cs j b ∷ []
+      go : (t : Bool)
+          → cond t (rest ++ get_or cs j b ∷ []) (c ∷ (rest ++ get_or cs j b ∷ [])) ≡ cond t rest (c ∷ rest) ++ get_or cs j b ∷ []
       go true = refl
       go false = refl
 
@@ -72,7 +74,8 @@ laid_more cs c h =
     ∙ ap (λ (k : ℕ). (cs ++ c ∷ []) ++ drop k free) (sym n))
     (omega (arith, length-append cs (c ∷ [])))
 
-module _ (i : ℕ) (ps : List Probe) (cs : List Chip) (j : ℕ) (d : Probe) (b : Chip) (m : Chips) (h : j < length ps) (k : j < length cs) (g : length cs ≤ 64) (e : m ≡ chips_with (kept i (take j ps) cs)) where
+module _ (i : ℕ) (ps : List Probe) (cs : List Chip) (j : ℕ) (d : Probe) (b : Chip) (m : Chips)
+    (h : j < length ps) (k : j < length cs) (g : length cs ≤ 64) (e : m ≡ chips_with (kept i (take j ps) cs)) where
   pub laid_passed : eqb i (get_or ps j d).id ≡ true → m ≡ chips_with (kept i (take (j + 1) ps) cs)
   laid_passed t = rw add-one (e ∙ ap chips_with (sym (passed i ps cs j d h t)))
 

@@ -1,13 +1,13 @@
 -- Which chips listen, and what a slot does to one.
 --   beyond           what a table of chips is read as behind its end
 --   not_selected     a condition that a `match` leaves is not that of a selected probe
---   listens_old      a probe of the old kind does not listen; listens-not, one that is not selected; listens-selected, a selected chip
---   lets_quiet       one that does not listen sends nothing; lets-heard, what one that listens lets the line be
---   hears, hears-not     what a slot makes of one that listens, and of another
---   quieted_over, quieted-on, quieted-not     which are deaf behind it
---   emptied_reached, emptied-passed, emptied-old     what a reset makes of one that it reaches, and of others
+--   listens_old      a probe of the old kind does not listen; listens_not, one that is not selected; listens_selected, a selected chip
+--   lets_quiet       one that does not listen sends nothing; lets_heard, what one that listens lets the line be
+--   hears, hears_not     what a slot makes of one that listens, and of another
+--   quieted_over, quieted_on_lem, quieted_not     which are deaf behind it
+--   emptied_reached, emptied_passed, emptied_old     what a reset makes of one that it reaches, and of others
 --   calm_some                                 whether a probe is calm for some slots
---   calm_chip, calm-old                       of a probe of the old kind it does not matter whether it is calm
+--   calm_chip, calm_old                       of a probe of the old kind it does not matter whether it is calm
 use mathlib.Core.Path.{◌≡◌, refl, sym, ap, ◌∙◌}
 use mathlib.Core.Bool.{Bool, true, false, cond, ◌&&◌}
 use mathlib.Core.List.{List, [], ◌∷◌}

@@ -4,9 +4,9 @@
 --   all_then             a test that follows from another
 --   crossed              a test of two tables, from either side
 --   Silent v l k         no chip of the line l listens
---   silent_level, silent-slot     what a slot is then
---   calm_level, calm-slots, calm-levels        one slot and several, of a wire that is calm for so many
---   calm_second, calm-written, calm-triplet    those of a triplet
+--   silent_level, silent_slot     what a slot is then
+--   calm_level, calm_slots, calm_levels        one slot and several, of a wire that is calm for so many
+--   calm_second, calm_written, calm_triplet    those of a triplet
 use mathlib.Core.Path.{◌≡◌, refl, sym, ap, ap₂, ◌∙◌}
 use mathlib.Core.Bool.{Bool, true, false, cond, not, ◌&&◌}
 use mathlib.Core.List.{List, [], ◌∷◌, map, ◌++◌}
@@ -25,7 +25,8 @@ use Rattle.chip.specs.Chip.{is_chip}
 use Rattle.wire.specs.declared.Chips.{Chips}
 use Rattle.wire.specs.declared.Wire.{Wire}
 use Rattle.wire.specs.Pairs.{paired, both_all}
-use Rattle.wire.specs.Wire.{fellows, is_selected, listens, lets, level_on, heard_by, heard_on, quieted, quieted_on, took_on, slot_on, slots_on, levels_on, second_on, written_on, triplet_on}
+use Rattle.wire.specs.Wire.{fellows, is_selected, listens, lets, level_on, heard_by, heard_on}
+use Rattle.wire.specs.Wire.{quieted, quieted_on, took_on, slot_on, slots_on, levels_on, second_on, written_on, triplet_on}
 use Rattle.wire.specs.Calm.{calm, calm_with, all_calm}
 use Rattle.wire.proofs.Listens.{listens_not, lets_quiet, hears_not, quieted_not}
 use Rattle.wire.proofs.Calmness.{calm_awake, calm_step}

@@ -2,9 +2,9 @@
 --   take_both       the first entries of a table, by two counts and by the smaller of them
 --   bounded         a count that is at most 64, and the same where it is less
 --   chips_at f l i k     the chips k with f done to the first i of them that have a fellow on the line l
---   chips_next      one entry more; chips-kept, one that stays as it is; chips-all, all that have a fellow
+--   chips_next      one entry more; chips_kept, one that stays as it is
 --   line_at f k i l      the line l with f done to the first i probes that have a fellow among the chips k
---   line_next, line_kept, line-all      the same of it
+--   line_next, line_kept      the same of it
 use mathlib.Core.Path.{◌≡◌, refl, sym, ap, ap₂, ◌∙◌}
 use mathlib.Core.Bool.{Bool, true, false, cond}
 use mathlib.Core.Logic.{◌⊎◌, inl, inr}
@@ -60,7 +60,8 @@ whole_or r x h f = go (ltb r 64) refl
 
 -- ---- a table beside another
 
-module _ {A B : Type 0} (f : A → B → B) (xs : List A) (ys zs : List B) (i : ℕ) (d : A) (e : B) (h : i < length xs) (k : i < length ys) (m : zs ≡ paired f (take i xs) ys) where
+module _ {A B : Type 0} (f : A → B → B) (xs : List A) (ys zs : List B) (i : ℕ) (d : A) (e : B)
+    (h : i < length xs) (k : i < length ys) (m : zs ≡ paired f (take i xs) ys) where
   same : get_or zs i e ≡ get_or ys i e
   same = ap (λ (t : List B). get_or t i e) m ∙ paired_at f xs ys i e
 
@@ -76,8 +77,10 @@ module _ {A B : Type 0} (f : A → B → B) (xs : List A) (ys zs : List B) (i : 
 abbrev pub chips_at : (Probe → Chip → Chip) → Line → ℕ → Chips → Chips
 chips_at f l i k = record { table = paired f (take i l.probes) k.table; count = k.count }
 
-module _ (f : Probe → Chip → Chip) (l : Line) (k m : Chips) (i : ℕ) (d : Probe) (e : Chip) (h : i < length l.probes) (g : i < length k.table) (q : m ≡ chips_at f l i k) where
-  pub chips_next : (c : Chip) → c ≡ f (get_or l.probes i d) (get_or m.table i e) → record { table = set m.table i c; count = m.count } ≡ chips_at f l (i + 1) k
+module _ (f : Probe → Chip → Chip) (l : Line) (k m : Chips) (i : ℕ) (d : Probe) (e : Chip)
+    (h : i < length l.probes) (g : i < length k.table) (q : m ≡ chips_at f l i k) where
+  pub chips_next : (c : Chip) → c ≡ f (get_or l.probes i d) (get_or m.table i e)
+      → record { table = set m.table i c; count = m.count } ≡ chips_at f l (i + 1) k
   chips_next c r =
       ap₂ {C = Chips} (λ (t : List Chip) (n : ℕ). record { table = t; count = n })
       (row_next f l.probes k.table m.table i d e h g (ap (λ (x : Chips). x.table) q) c r) (ap (λ (x : Chips). x.count) q)
@@ -92,8 +95,10 @@ module _ (f : Probe → Chip → Chip) (l : Line) (k m : Chips) (i : ℕ) (d : P
 abbrev pub line_at : (Chip → Probe → Probe) → Chips → ℕ → Line → Line
 line_at f k i l = record { probes = paired f (take i k.table) l.probes; count = l.count }
 
-module _ (f : Chip → Probe → Probe) (k : Chips) (l m : Line) (i : ℕ) (d : Chip) (e : Probe) (h : i < length k.table) (g : i < length l.probes) (q : m ≡ line_at f k i l) where
-  pub line_next : (p : Probe) → p ≡ f (get_or k.table i d) (get_or m.probes i e) → record { probes = set m.probes i p; count = m.count } ≡ line_at f k (i + 1) l
+module _ (f : Chip → Probe → Probe) (k : Chips) (l m : Line) (i : ℕ) (d : Chip) (e : Probe)
+    (h : i < length k.table) (g : i < length l.probes) (q : m ≡ line_at f k i l) where
+  pub line_next : (p : Probe) → p ≡ f (get_or k.table i d) (get_or m.probes i e)
+      → record { probes = set m.probes i p; count = m.count } ≡ line_at f k (i + 1) l
   line_next p r =
       ap₂ {C = Line} (λ (t : List Probe) (n : ℕ). record { probes = t; count = n })
       (row_next f k.table l.probes m.probes i d e h g (ap (λ (x : Line). x.probes) q) p r) (ap (λ (x : Line). x.count) q)

@@ -1,7 +1,7 @@
 -- One turn of the loop over the bits of a byte, counting down.
 --   slots_on_next         one slot more
 --   filled v n y x m     the byte y once the levels of n slots with the low bits of x have gone in at its top
---   filled_next          one level more; filled-levels, eight levels that go into 0 are the levels, low bit first
+--   filled_next          one level more; filled_levels, eight levels that go into 0 are the levels, low bit first
 use mathlib.Core.Path.{◌≡◌, refl, ap, ◌∙◌}
 use Prim.Native.Nat.{ℕ, zero, suc, ◌+◌, ◌-◌, ◌*◌, ◌/◌, ◌%◌, ◌^◌, ◌<◌}
 use native.Mathlib.Omega.{arith}

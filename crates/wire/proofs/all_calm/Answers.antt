@@ -23,9 +23,12 @@ returns-then-not-calm c =
     let e = c.pairs-m in
     let a = c.args in
     let told = sym c.calm.ensures ∙ c.if-not-calm.true in
+    let f = calm_with a.n in
+    let ps = a.line.probes in
+    let cs = a.chips.table in
     sym
-    (ap (λ (ps : List Probe). both_all (calm_with a.n) ps a.chips.table) (sym e.ensures.3)
-    ∙ both_all_fails (calm_with a.n) a.line.probes a.chips.table e.result l.i _ _ (omega arith) (omega (arith, e.ensures.1)) (omega (arith, e.ensures.2))
+    (ap (λ (ps : List Probe). both_all f ps cs) (sym e.ensures.3)
+    ∙ both_all_fails f ps cs e.result l.i _ _ (omega arith) (omega (arith, e.ensures.1)) (omega (arith, e.ensures.2))
     (calm_chip a.n _ (get_or a.chips.table l.i beyond) c.if-c-lt-NO_ADDRESS.true ∙ told))
 
 pub loop-i-preserved-else-not-calm : goal.loop-i-preserved-else-not-calm
@@ -34,14 +37,17 @@ loop-i-preserved-else-not-calm c =
     let e = c.pairs-m.ensures in
     let a = c.args in
     let told = sym c.calm.ensures ∙ c.if-not-calm.false in
-    (omega arith, both_all_next (calm_with a.n) a.line.probes a.chips.table l.i _ _ (omega (arith, e.1)) (omega (arith, e.2)) l.invariant.1 (calm_chip a.n _ (get_or a.chips.table l.i beyond) c.if-c-lt-NO_ADDRESS.true ∙ told))
+    let next = both_all_next (calm_with a.n) a.line.probes a.chips.table l.i _ _ (omega (arith, e.1)) (omega (arith, e.2)) l.invariant.1 in
+    (omega arith, next (calm_chip a.n _ (get_or a.chips.table l.i beyond) c.if-c-lt-NO_ADDRESS.true ∙ told))
 
 pub loop-i-preserved : goal.loop-i-preserved
 loop-i-preserved c =
     let l = c.loop-i in
     let e = c.pairs-m.ensures in
     let a = c.args in
-    (omega arith, both_all_next (calm_with a.n) a.line.probes a.chips.table l.i _ _ (omega (arith, e.1)) (omega (arith, e.2)) l.invariant.1 (calm_old a.n (get_or a.line.probes l.i (deaf_new 0)) (get_or a.chips.table l.i beyond) c.if-c-lt-NO_ADDRESS.false))
+    let next = both_all_next (calm_with a.n) a.line.probes a.chips.table l.i _ _ (omega (arith, e.1)) (omega (arith, e.2)) l.invariant.1 in
+    let p = get_or a.line.probes l.i (deaf_new 0) in
+    (omega arith, next (calm_old a.n p (get_or a.chips.table l.i beyond) c.if-c-lt-NO_ADDRESS.false))
 
 pub returns : goal.returns
 unfolding all_calm

@@ -20,9 +20,12 @@ returns-then-not-sends c =
     let a = c.args in
     let told = sym c.listening.ensures ∙ c.if-listening.true in
     let sent = sym c.sends.ensures ∙ c.if-not-sends.true in
+    let f = lets a.speed in
+    let ps = a.line.probes in
+    let cs = a.chips.table in
     sym
-    (ap (λ (ps : List Probe). both_all (lets a.speed) ps a.chips.table) (sym e.ensures.3)
-    ∙ both_all_fails (lets a.speed) a.line.probes a.chips.table e.result l.i _ _ (omega arith) (omega (arith, e.ensures.1)) (omega (arith, e.ensures.2))
+    (ap (λ (ps : List Probe). both_all f ps cs) (sym e.ensures.3)
+    ∙ both_all_fails f ps cs e.result l.i _ _ (omega arith) (omega (arith, e.ensures.1)) (omega (arith, e.ensures.2))
     (lets_heard a.speed _ _ told ∙ sent))
 
 pub loop-i-preserved-else-not-sends : goal.loop-i-preserved-else-not-sends
@@ -32,7 +35,8 @@ loop-i-preserved-else-not-sends c =
     let a = c.args in
     let told = sym c.listening.ensures ∙ c.if-listening.true in
     let sent = sym c.sends.ensures ∙ c.if-not-sends.false in
-    (omega arith, both_all_next (lets a.speed) a.line.probes a.chips.table l.i _ _ (omega (arith, e.1)) (omega (arith, e.2)) l.invariant.1 (lets_heard a.speed _ _ told ∙ sent))
+    let next = both_all_next (lets a.speed) a.line.probes a.chips.table l.i _ _ (omega (arith, e.1)) (omega (arith, e.2)) l.invariant.1 in
+    (omega arith, next (lets_heard a.speed _ _ told ∙ sent))
 
 pub loop-i-preserved : goal.loop-i-preserved
 loop-i-preserved c =
@@ -40,4 +44,5 @@ loop-i-preserved c =
     let e = c.pairs-n.ensures in
     let a = c.args in
     let told = sym c.listening.ensures ∙ c.if-listening.false in
-    (omega arith, both_all_next (lets a.speed) a.line.probes a.chips.table l.i _ _ (omega (arith, e.1)) (omega (arith, e.2)) l.invariant.1 (lets_quiet a.speed _ _ told))
+    let next = both_all_next (lets a.speed) a.line.probes a.chips.table l.i _ _ (omega (arith, e.1)) (omega (arith, e.2)) l.invariant.1 in
+    (omega arith, next (lets_quiet a.speed _ _ told))

@@ -43,6 +43,8 @@ returns c =
     let l = c.loop-i in
     let e = c.pairs-n in
     let a = c.args in
+    let f = heard_by a.speed a.level in
+    let k = a.chips in
     let stop : l.i ≡ e.result = omega arith in
-    l.invariant.1 ∙ ap (λ (k : ℕ). chips_at (heard_by a.speed a.level) a.line k a.chips) stop
-    ∙ ap {B = Chips} (λ (ps : List Probe). record { table = paired (heard_by a.speed a.level) ps a.chips.table; count = a.chips.count }) e.ensures.3
+    l.invariant.1 ∙ ap (λ (n : ℕ). chips_at f a.line n a.chips) stop
+    ∙ ap {B = Chips} (λ (ps : List Probe). record { table = paired f ps k.table; count = k.count }) e.ensures.3

@@ -37,8 +37,8 @@ loop-i-preserved c =
     let a = c.args in (
       omega arith,
       omega arith,
-      laid_passed a.id a.line.probes a.chips.table l.i _ beyond l.rest (omega (arith, e.1)) (omega (arith, e.2)) (omega (arith, e.2)) l.invariant.2
-          (eq-eqb _ _ c.if-id-p.false),
+      laid_passed a.id a.line.probes a.chips.table l.i _ beyond l.rest (omega (arith, e.1)) (omega (arith, e.2))
+          (omega (arith, e.2)) l.invariant.2 (eq-eqb _ _ c.if-id-p.false),
     )
 
 pub returns : goal.returns
