@@ -49,6 +49,11 @@ module _ {A : Type 0} where
   all_same s t u h (x ∷ l) e =
       ap₂ (λ (a b : Bool). cond a b false) (h x (first_of (s x) (all s l) e)) (all_same s t u h l (rest_of (s x) (all s l) e))
 
+pub on_fitted_same : (s : Probe → Bool) (f g : Probe → Probe) → ((p : Probe) → s p ≡ true → f p ≡ g p) → (l : Line) → all s (fitted l) ≡ true → on_fitted f l ≡ on_fitted g l
+unfolding on_fitted
+on_fitted_same s f g h l e =
+    ap (λ (ps : List Probe). record { probes = ps ++ drop l.count l.probes; count = l.count }) (map_same s f g h (fitted l) e)
+
 pub fitted_on_fitted : (f : Probe → Probe) (l : Line) → fitted (on_fitted f l) ≡ map f (fitted l)
 unfolding fitted on_fitted
 fitted_on_fitted f l = take_front f l.count l.probes
@@ -66,8 +71,3 @@ on_fitted_none l =
     ap (λ (s : List Probe). record { probes = s; count = l.count })
     (ap (λ (s : List Probe). s ++ drop l.count l.probes) (map-id (take l.count l.probes))
     ∙ take-append-drop l.count l.probes)
-
-pub on_fitted_same : (s : Probe → Bool) (f g : Probe → Probe) → ((p : Probe) → s p ≡ true → f p ≡ g p) → (l : Line) → all s (fitted l) ≡ true → on_fitted f l ≡ on_fitted g l
-unfolding on_fitted
-on_fitted_same s f g h l e =
-    ap (λ (ps : List Probe). record { probes = ps ++ drop l.count l.probes; count = l.count }) (map_same s f g h (fitted l) e)

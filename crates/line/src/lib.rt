@@ -191,6 +191,7 @@ impl Line {
     }
 
     // A probe is fitted: the ID by itself is checked first, then whether it is there already, then whether there is room.
+    #[tactic(auto, unfolding(crate::specs::Line::fit_number, crate::specs::Line::place_number, crate::specs::Line::after_fit))]
     pub fn fit(self, id: &[u8; 8]) -> Fitting
         ensures { (result.number ≡ fit_number id.now self) × (result.line ≡ after_fit id.now self) }
     {
