@@ -5,7 +5,10 @@
 --   line_with_more                 another probe goes behind those that are laid
 --   laid_passed, laid_kept        the line that is laid, with one entry more gone through
 --   fitted_when                   so the number of those left tells whether the ID is fitted
---   withdrawn, not-fitted         number and line, by that
+--   fitted_left, left_at_most     the same of the number of those that there were, and that those left are no more
+--   length_front                  the number of those in front
+--   withdrawn, not_fitted_lem     number and line, by that; not_fitted_line, the line alone
+--   told                          what the tactics take of these
 use mathlib.Core.Path.{◌≡◌, refl, sym, ap, ap₂, ◌∙◌}
 use mathlib.Core.Bool.{Bool, true, false, cond}
 use mathlib.Core.List.{List, [], ◌∷◌, ◌++◌, map}
@@ -103,6 +106,17 @@ pub fitted_when : (i : ℕ) (l : Line) (n : ℕ) → length (fitted l) ≡ n →
 unfolding is_fitted ids_of without line_with
 fitted_when i l n e = others_fitted i (fitted l) ∙ ap (ltb (length (others i (fitted l)))) e
 
+-- the same of the number of those that there were, which a call of `entries` tells
+pub fitted_left : (i : ℕ) (l : Line) → is_fitted i l ≡ ltb (without i l).count (length (fitted l))
+fitted_left i l = fitted_when i l (length (fitted l)) refl
+
+pub left_at_most : (i : ℕ) (l : Line) → (without i l).count ≤ length (fitted l)
+unfolding without line_with
+left_at_most i l = others_length i (fitted l)
+
+pub length_front : (n : ℕ) (ps : List Probe) → n ≤ length ps → length (take n ps) ≡ n
+length_front n ps h = omega (arith, length-take n ps)
+
 module _ (x : List ℕ) (l : Line) where
   pub withdrawn : is_fitted (number_of x) l ≡ true → (0 ≡ withdraw_number x l) × (without (number_of x) l ≡ after_withdraw x l)
   unfolding after_withdraw withdraw_number
@@ -111,3 +125,10 @@ module _ (x : List ℕ) (l : Line) where
   pub not_fitted_lem : is_fitted (number_of x) l ≡ false → (20 ≡ withdraw_number x l) × (l ≡ after_withdraw x l)
   unfolding after_withdraw withdraw_number
   not_fitted_lem e = simp e (refl, refl)
+
+  -- read from the left, for the tactics
+  pub not_fitted_line : is_fitted (number_of x) l ≡ false → after_withdraw x l ≡ l
+  not_fitted_line e = sym (not_fitted_lem e).1
+
+-- what tells `withdraw` whether the ID is fitted, and what it answers where it is not
+pub ruleset told = (fitted_left, left_at_most, length_front, not_fitted_line)

@@ -47,6 +47,7 @@ fn without(line: Line, id: u64) -> Line
 }
 
 // A probe is withdrawn. If none has gone, its ID was not fitted, and the line stays as it was.
+#[tactic(auto, using(crate::proofs::Others::told), unfolding(crate::specs::Withdrawal::withdraw_number))]
 pub fn withdraw(line: Line, id: &[u8; 8]) -> Withdrawal
     ensures { (result.number ≡ withdraw_number id.now line) × (result.line ≡ after_withdraw id.now line) }
 {
