@@ -18,6 +18,7 @@ use Rattle.triplet_slots.proofs.Settled.{sends_after, settled_rests, settled_fir
 use Prim.Native.Nat.{◌<◌}
 use lib.ListN.{length}
 use Rattle.probe.specs.declared.Slot.TheVariants.{First}
+use borrow.Author.Rules.{rules}
 use Rattle.triplet_slots.proofs.outlook.Goals as goal
 
 -- one entry more, which passes a test or fails it
@@ -45,7 +46,8 @@ loop-i-preserved-then-bit c =
     let v = c.args.speed in
     let ps = c.args.line.probes in
     let below : l.i < length ps = omega arith in
-    let first = c.in-Searching.is ∙ ap (Searching c.in-Searching.bit) c.in-First.is in
+    let slot : c.in-Searching.slot ≡ First = search rules in
+    let first = c.in-Searching.is ∙ ap (Searching c.in-Searching.bit) slot in
     let s = sent v c.in-Searching.bit (get_or ps l.i (deaf_new 0)) true first (sym c.reached.ensures ∙ c.if-not-reached.false) (sym c.bit.ensures ∙ c.if-bit.true) in (
       omega arith,
       all_next (settled v) ps l.i _ below l.invariant.1 s.0,
@@ -59,7 +61,8 @@ loop-i-preserved-else-bit c =
     let v = c.args.speed in
     let ps = c.args.line.probes in
     let below : l.i < length ps = omega arith in
-    let first = c.in-Searching.is ∙ ap (Searching c.in-Searching.bit) c.in-First.is in
+    let slot : c.in-Searching.slot ≡ First = search rules in
+    let first = c.in-Searching.is ∙ ap (Searching c.in-Searching.bit) slot in
     let s = sent v c.in-Searching.bit (get_or ps l.i (deaf_new 0)) false first (sym c.reached.ensures ∙ c.if-not-reached.false) (sym c.bit.ensures ∙ c.if-bit.false) in (
       omega arith,
       all_next (settled v) ps l.i _ below l.invariant.1 s.0,
