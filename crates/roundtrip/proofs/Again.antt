@@ -138,6 +138,14 @@ again p bytes = again_checked (is_sealed p) (form_of p) p (again_form p bytes)
 
 -- ---- forming the parts again
 
+pub again_refused : (p d : List ℕ) {n k : ℕ} → reading_of p ≡ Refused n k → (n ≡ again_number p d) × (k ≡ again_place p) × (d ≡ formed_again p d)
+unfolding again_number again_for again_place formed_again again_in
+again_refused p d e = (
+  sym (ap (λ (x : Reading). again_for x (length p) (length d)) e),
+  sym (ap reading_place e),
+  sym (ap (λ (x : Reading). again_in x p d) e),
+)
+
 pub again_formed : (p d : List ℕ) (q : Request) {c a b l r : ℕ} → Bytes p → reading_of p ≡ Parts c a b l r → request_in (Parts c a b l r) p ≡ q → (form_number q d ≡ again_number p d) × (0 ≡ again_place p) × (formed q d ≡ formed_again p d)
 unfolding form_number formed again_number again_for again_place formed_again again_in
 again_formed p d q {c} {a} {b} {l} {r} bytes e f =
@@ -173,11 +181,3 @@ module _ (p : List ℕ) (c a b l r : ℕ) where
   pub request_write_read : (s : List ℕ) → s ≡ take l (drop b p) → (c ≡ 0x4B → ⊥) → (c ≡ 0x87 → ⊥) → request_in (Parts c a b l r) p ≡ write_read a s r
   unfolding request_in
   request_write_read s e n m = simp (ne_eqb c 0x4B n, ne_eqb c 0x87 m) (ap (λ (x : List ℕ). write_read a x r) (sym e))
-
-pub again_refused : (p d : List ℕ) {n k : ℕ} → reading_of p ≡ Refused n k → (n ≡ again_number p d) × (k ≡ again_place p) × (d ≡ formed_again p d)
-unfolding again_number again_for again_place formed_again again_in
-again_refused p d e = (
-  sym (ap (λ (x : Reading). again_for x (length p) (length d)) e),
-  sym (ap reading_place e),
-  sym (ap (λ (x : Reading). again_in x p d) e),
-)

@@ -21,14 +21,6 @@ returns-in_default c =
       ref_ptr_value = sym (ap (λ (g : Reading). place_from packet.ref_ptr (start_in g)) refused ∙ ap (λ (k : ℕ). (packet.ref_ptr.0, k)) (add-zero packet.ref_ptr.1));
     }
 
-pub overflow_add-result : goal.overflow_add-result
-overflow_add-result c =
-    let within = lies c.args.packet.now _ _ _ _ _ (sym c.read.ensures ∙ c.in-Parts.is) in
-    omega (arith, within)
-
-pub slice_bounds-result-end-2 : goal.slice_bounds-result-end-2
-slice_bounds-result-end-2 c = lies c.args.packet.now _ _ _ _ _ (sym c.read.ensures ∙ c.in-Parts.is)
-
 pub returns : goal.returns
 unfolding data_in start_in
 returns c =
@@ -39,3 +31,11 @@ returns c =
       result_value = ap (λ (k : ℕ). take k (drop s packet.now)) (add-sub_cancel_left s l) ∙ sym (ap (λ (g : Reading). data_in g packet.now) parts);
       ref_ptr_value = ap (λ (k : ℕ). (packet.ref_ptr.0, k)) (add_comm s packet.ref_ptr.1) ∙ sym (ap (λ (g : Reading). place_from packet.ref_ptr (start_in g)) parts);
     }
+
+pub overflow_add-result : goal.overflow_add-result
+overflow_add-result c =
+    let within = lies c.args.packet.now _ _ _ _ _ (sym c.read.ensures ∙ c.in-Parts.is) in
+    omega (arith, within)
+
+pub slice_bounds-result-end-2 : goal.slice_bounds-result-end-2
+slice_bounds-result-end-2 c = lies c.args.packet.now _ _ _ _ _ (sym c.read.ensures ∙ c.in-Parts.is)
