@@ -1,8 +1,8 @@
 -- What fitting a chip and withdrawing answer.
 --   has_room          where a fitting is accepted there is room
---   chip_wrong, chip-family, chip-place, chip-address, chip-done     the number of a fitting, check by check
---   chip_left         a refused one leaves the station; chip-fitted, an accepted one
---   removal_left, removal-done     the same of a withdrawal
+--   chip_wrong, chip_family, chip_place, chip_address, chip_done     the number of a fitting, check by check
+--   chip_left         a refused one leaves the station; chip_fitted, an accepted one
+--   removal_left, removal_done     the same of a withdrawal
 use mathlib.Core.Path.{◌≡◌, refl, sym, ap, ◌∙◌}
 use mathlib.Core.Bool.{Bool, true, false, cond}
 use mathlib.Core.List.{List}
@@ -47,20 +47,21 @@ module _ (x : List ℕ) (a : ℕ) (s : Station) where
       unfolding chip_number
       chip_place h =
           let at = placed x s.bridge.line right in
-          simp (eq-eqb (refusal_of x) 0 right, eq-eqb (family_of x) 0x19 family, ne_eqb (place_number (number_of x) s.bridge.line) 0 (λ e. h (at ∙ e))) at
+          let taken = ne_eqb (place_number (number_of x) s.bridge.line) 0 (λ e. h (at ∙ e)) in
+          simp (eq-eqb (refusal_of x) 0 right, eq-eqb (family_of x) 0x19 family, taken) at
 
       module _ (free : fit_number x s.bridge.line ≡ 0) where
         pub chip_address : 128 ≤ a → 22 ≡ chip_number x a s.bridge
         unfolding chip_number
         chip_address h =
-            let at = sym (placed x s.bridge.line right) ∙ free in
-            simp (eq-eqb (refusal_of x) 0 right, eq-eqb (family_of x) 0x19 family, eq-eqb (place_number (number_of x) s.bridge.line) 0 at, lt-leb a 127 (omega (arith, h))) refl
+            let at = eq-eqb (place_number (number_of x) s.bridge.line) 0 (sym (placed x s.bridge.line right) ∙ free) in
+            simp (eq-eqb (refusal_of x) 0 right, eq-eqb (family_of x) 0x19 family, at, lt-leb a 127 (omega (arith, h))) refl
 
         pub chip_done : a < 128 → 0 ≡ chip_number x a s.bridge
         unfolding chip_number
         chip_done h =
-            let at = sym (placed x s.bridge.line right) ∙ free in
-            simp (eq-eqb (refusal_of x) 0 right, eq-eqb (family_of x) 0x19 family, eq-eqb (place_number (number_of x) s.bridge.line) 0 at, le-leb a 127 (omega (arith, h))) refl
+            let at = eq-eqb (place_number (number_of x) s.bridge.line) 0 (sym (placed x s.bridge.line right) ∙ free) in
+            simp (eq-eqb (refusal_of x) 0 right, eq-eqb (family_of x) 0x19 family, at, le-leb a 127 (omega (arith, h))) refl
 
   pub chip_left : (n : ℕ) → n ≡ chip_number x a s.bridge → (n ≡ 0 → ⊥) → s ≡ after_chip x a s
   unfolding after_chip
@@ -77,6 +78,7 @@ module _ (x : List ℕ) (s : Station) where
   removal_left n e h = simp (ne_eqb (withdraw_number x s.bridge.line) 0 (λ z. h (e ∙ z))) refl
 
   pub removal_done : 0 ≡ withdraw_number x s.bridge.line
-      → ◌≡◌ {A = Station} (record { bridge = after_withdrawal x s.bridge; chips = chips_without (number_of x) s.bridge.line s.chips }) (after_removal x s)
+      → ◌≡◌ {A = Station} (record { bridge = after_withdrawal x s.bridge; chips = chips_without (number_of x) s.bridge.line s.chips })
+      (after_removal x s)
   unfolding after_removal
   removal_done e = simp (eq-eqb (withdraw_number x s.bridge.line) 0 (sym e)) refl

@@ -2,7 +2,9 @@
 --   powered                the station at power-on
 --   on_bridge b s           the station s with the bridge b
 --   wire_of s               its line and its chips
---   after_time_on s          the station after time has passed
+--   registers_reset p r     the registers after a 1-Wire Reset that met the presence p; and so registers_bit, registers_byte and
+--                           registers_triplet
+--   after_time_on s         the station after time has passed
 --   chip_number x a b       the number that fitting a chip with the ID of the bytes x and the address a gives
 --   after_chip x a s        the station after that
 --   after_removal x s       the station after withdrawing the ID of the bytes x
@@ -11,12 +13,13 @@
 use Rattle.std.specs.Prelude.{ℕ, ◌+◌, Bool, true, false, cond, List, eqb, leb, set}
 use Rattle.identity.specs.Identity.{number_of, family_of, refusal_of}
 use Rattle.line.specs.Line.{present, after_reset, place_number}
+use Rattle.triplet_slots.specs.Triplet.{chosen}
 use Rattle.withdrawal.specs.Withdrawal.{withdraw_number}
 use Rattle.bridge.specs.declared.Pending.{Pending}
 use Rattle.bridge.specs.declared.Pending.TheVariants.{Nothing, Reset, SingleBit, WriteByte, ReadByte, Triplet}
 use Rattle.bridge.specs.declared.Registers.{Registers}
 use Rattle.bridge.specs.declared.Bridge.{Bridge}
-use Rattle.bridge.specs.Bridge.{power_on, speed_of, registersReset, registersBit, registersByte, registersTriplet, after_write, after_fitting, after_withdrawal}
+use Rattle.bridge.specs.Bridge.{power_on, speed_of, finished, with_presence, with_levels, after_write, after_fitting, after_withdrawal}
 use Rattle.chip.specs.Chip.{new_chip}
 use Rattle.wire.specs.declared.Chips.{Chips}
 use Rattle.wire.specs.declared.Wire.{Wire}
@@ -41,6 +44,26 @@ station_of r m = record { bridge = record { registers = r; line = m.line }; chip
 
 -- ---- time passing
 
+-- The registers after each 1-Wire command, by what it met on the line.
+
+-- B4h 1-Wire Reset: PPD is the presence p.
+abbrev pub registers_reset : Bool → Registers → Registers
+registers_reset p r = finished (with_presence p r.status) r.readout r
+
+-- 87h Single Bit: SBR is the level l of its slot, and DIR and TSB stay.
+abbrev pub registers_bit : Bool → Registers → Registers
+registers_bit l r =
+    let s = r.status in
+    finished (with_levels s.dir s.tsb l s) r.readout r
+
+-- A5h Write Byte and 96h Read Byte: the read-data byte is o, and the status bits stay.
+abbrev pub registers_byte : ℕ → Registers → Registers
+registers_byte o r = finished r.status o r
+
+-- 78h Triplet, in which the direction d is asked for: SBR is the first level, TSB the second, DIR the bit written.
+abbrev pub registers_triplet : Bool → Bool → Bool → Registers → Registers
+registers_triplet first second d r = finished (with_levels (chosen first second d) second first r.status) r.readout r
+
 -- The registers are as after any of the bridge's commands, by what it met on the line; slots and resets come at the bridge's speed.
 
 -- B4h 1-Wire Reset.
@@ -49,34 +72,34 @@ finished_reset_on s =
     let r = s.bridge.registers in
     let v = speed_of r in
     let l = s.bridge.line in
-    station_of (registersReset (present v l) r) (record { line = after_reset v l; chips = emptied_on v l s.chips })
+    station_of (registers_reset (present v l) r) (record { line = after_reset v l; chips = emptied_on v l s.chips })
 
 -- 87h Single Bit: one slot.
 unfoldable pub finished_bit_on : Bool → Station → Station
 finished_bit_on w s =
     let r = s.bridge.registers in
     let v = speed_of r in
-    station_of (registersBit (level_on v w (wire_of s)) r) (slot_on v w (wire_of s))
+    station_of (registers_bit (level_on v w (wire_of s)) r) (slot_on v w (wire_of s))
 
 -- A5h Write Byte: eight slots, low bit first.
 unfoldable pub finished_write_on : ℕ → Station → Station
 finished_write_on x s =
     let r = s.bridge.registers in
-    station_of (registersByte r.readout r) (slots_on (speed_of r) 8 x (wire_of s))
+    station_of (registers_byte r.readout r) (slots_on (speed_of r) 8 x (wire_of s))
 
 -- 96h Read Byte: eight write-one slots; their levels go to read data.
 unfoldable pub finished_read_on : Station → Station
 finished_read_on s =
     let r = s.bridge.registers in
     let v = speed_of r in
-    station_of (registersByte (levels_on v 8 0xFF (wire_of s)) r) (slots_on v 8 0xFF (wire_of s))
+    station_of (registers_byte (levels_on v 8 0xFF (wire_of s)) r) (slots_on v 8 0xFF (wire_of s))
 
 -- 78h Triplet: two write-one slots, then a write slot.
 unfoldable pub finished_triplet_on : Bool → Station → Station
 finished_triplet_on d s =
     let r = s.bridge.registers in
     let v = speed_of r in
-    station_of (registersTriplet (level_on v true (wire_of s)) (second_on v (wire_of s)) d r) (triplet_on v d (wire_of s))
+    station_of (registers_triplet (level_on v true (wire_of s)) (second_on v (wire_of s)) d r) (triplet_on v d (wire_of s))
 
 -- Time passing with nothing pending changes nothing.
 unfoldable pub finished_on : Pending → Station → Station

@@ -1,11 +1,14 @@
 // The bridge and the chips on its line (document 02, R-7).
 //
 // A station is a bridge, whose line has probes of both kinds, and the chips that stand beside it; its holder keeps the two apart. Writes,
-// reads and the fitting of a probe of the old kind are the bridge's own calls. Here is what a chip has a part in: time passing, its fitting,
-// and a withdrawal. Where no chip has a part in what is pending, which `quiet` tells, the bridge's own `wait` does the same and is quicker.
+// reads and the fitting of a probe of the old kind are the bridge's own calls. Here is what a chip has a part in: time passing, its
+// fitting, and a withdrawal. Where no chip has a part in what is pending, which `quiet` tells, the bridge's own `wait` does the same and
+// is quicker.
 //
 // Worked example: with a chip of address 20h fitted and selected, 87 41 01 BE 46 by Write Byte and then two Single Bits read its poll
 // slots, 1 and 0; after them two Read Bytes give 00h and its register 0.
+#![tactic(auto)]
+
 pub mod fitting;
 mod time;
 

@@ -1,12 +1,12 @@
 // Time passing where a chip may have a part in it: the slots of each 1-Wire command.
 ghost use Rattle.std.specs.Prelude.{◌≡◌, cond, false};
-ghost use Rattle.bridge.specs.Bridge.{speed_of};
+ghost use Rattle.bridge.specs.Bridge.{speed_of, pullup_after, finished};
 ghost use Rattle.wire.specs.Calm.{all_calm};
-ghost use Rattle.station.specs.Station.{station_of, finished_reset_on, finished_bit_on, finished_write_on, finished_read_on, finished_triplet_on};
-ghost use Rattle.station.specs.Station.{finished_on, slots_in, is_reset};
+ghost use Rattle.station.specs.Station.{station_of, finished_reset_on, finished_bit_on, finished_write_on};
+ghost use Rattle.station.specs.Station.{finished_read_on, finished_triplet_on, finished_on, slots_in, is_reset};
 
 use crate::Station;
-use bridge::{Bridge, Pending, Registers};
+use bridge::{Bridge, Pending, Registers, StatusBits};
 use line::Line;
 use wire::{Chips, Wire};
 
@@ -15,6 +15,37 @@ fn speed(registers: Registers) -> u32
     ensures { result ≡ speed_of registers }
 {
     (registers.configuration / 8 % 2) as u32
+}
+
+// Whether the pull-up is on once the command is over.
+fn pullup_after(registers: Registers) -> bool
+    ensures { result ≡ pullup_after registers }
+{
+    let pending = registers.pending;
+    let on = registers.pullup || registers.configuration / 4 % 2 == 1;
+    match pending {
+        Pending::Nothing => registers.pullup,
+        Pending::Reset => registers.pullup,
+        Pending::SingleBit { bit: _ } => on,
+        Pending::WriteByte { byte: _ } => on,
+        Pending::ReadByte => registers.pullup,
+        Pending::Triplet { direction: _ } => registers.pullup,
+    }
+}
+
+// The command is over. It stands in for `Registers::finished` of the bridge until that is public.
+fn over(registers: Registers, status: StatusBits, readout: u8) -> Registers
+    ensures { result ≡ finished status readout registers }
+{
+    let pointer = registers.pointer;
+    Registers {
+        status,
+        configuration: registers.configuration,
+        pointer,
+        readout,
+        pending: Pending::Nothing,
+        pullup: pullup_after(registers),
+    }
 }
 
 // The station with these registers, and with this line and these chips.
@@ -39,7 +70,7 @@ fn finished_reset(registers: Registers, wire: Wire) -> Station
         line: line.reset(at),
         chips: wire::emptied(line, chips, at),
     };
-    station_of(registers.finished(status, registers.readout), after)
+    station_of(over(registers, status, registers.readout), after)
 }
 
 fn finished_bit(registers: Registers, wire: Wire, bit: bool) -> Station
@@ -49,7 +80,7 @@ fn finished_bit(registers: Registers, wire: Wire, bit: bool) -> Station
     let mut status = registers.status;
     status.sbr = slotted.level;
     let after = slotted.wire;
-    station_of(registers.finished(status, registers.readout), after)
+    station_of(over(registers, status, registers.readout), after)
 }
 
 fn finished_write(registers: Registers, wire: Wire, byte: u8) -> Station
@@ -58,7 +89,7 @@ fn finished_write(registers: Registers, wire: Wire, byte: u8) -> Station
     let eight = wire.slots(speed(registers), byte);
     let status = registers.status;
     let after = eight.wire;
-    station_of(registers.finished(status, registers.readout), after)
+    station_of(over(registers, status, registers.readout), after)
 }
 
 fn finished_read(registers: Registers, wire: Wire) -> Station
@@ -67,7 +98,7 @@ fn finished_read(registers: Registers, wire: Wire) -> Station
     let eight = wire.slots(speed(registers), 0xFF);
     let status = registers.status;
     let after = eight.wire;
-    station_of(registers.finished(status, eight.byte), after)
+    station_of(over(registers, status, eight.byte), after)
 }
 
 fn finished_triplet(registers: Registers, wire: Wire, direction: bool) -> Station
@@ -79,10 +110,11 @@ fn finished_triplet(registers: Registers, wire: Wire, direction: bool) -> Statio
     status.tsb = three.second;
     status.sbr = three.first;
     let after = three.wire;
-    station_of(registers.finished(status, registers.readout), after)
+    station_of(over(registers, status, registers.readout), after)
 }
 
 // What is pending has its effect.
+#[tactic(auto, unfolding(crate::specs::Station::finished_on))]
 pub(crate) fn finished(registers: Registers, line: Line, chips: Chips) -> Station
     ensures { result ≡ finished_on registers.pending (station_of registers (record { line = line; chips = chips })) }
 {
@@ -99,6 +131,7 @@ pub(crate) fn finished(registers: Registers, line: Line, chips: Chips) -> Statio
 }
 
 // How many slots a command has.
+#[tactic(auto, unfolding(crate::specs::Station::slots_in))]
 fn slots_in(pending: Pending) -> u8
     ensures { result ≡ slots_in pending }
 {
