@@ -108,8 +108,8 @@ def contracts(root):
 def due(function):
     """The statements that a law of this function may have, as pairs of a name and a pattern; {} stands for the function's contract.
 
-    What it gives back is the result, or of a reference the place and the content; every lent buffer comes beside it. A function that is
-    proved by hand has its contract as clauses of the program logic.
+    What it gives back is the result, or of a reference the place and the content; every lent buffer comes beside it. A function may have its
+    contract as clauses of the program logic.
     """
     lent = [i for i, (_, kind) in enumerate(function.parameters) if re.match(r"&(?:'\w+ )?mut\b", kind)]
     contents = [f's{".1" * i}.0.now' for i in lent]
