@@ -3,14 +3,14 @@ use mathlib.Core.Path.{sym, ap₂, ◌∙◌}
 use Prim.Native.Nat.{ℕ}
 use Rattle.checksum.proofs.Unique.{OneAnswer}
 use Rattle.bridge.specs.declared.Bridge.{Bridge}
-use Rattle.bridge.proofs.Bridge.power_on.Reads as power-on
+use Rattle.bridge.proofs.Bridge.power_on.Reads as power_on
 use Rattle.bridge.proofs.Bridge.write.Reads as write
 use Rattle.bridge.proofs.Bridge.read.Reads as read
 use Rattle.bridge.proofs.Bridge.wait.Reads as wait
 use Rattle.bridge.proofs.Bridge.fit.Reads as fit
 use Rattle.bridge.proofs.Bridge.withdraw.Reads as withdraw
 
-pub one_power_on : OneAnswer power-on.Post
+pub one_power_on : OneAnswer power_on.Post
 one_power_on κ a x y s t p q = p ∙ sym q
 
 pub one_read : OneAnswer read.Post

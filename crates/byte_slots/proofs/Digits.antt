@@ -3,10 +3,10 @@
 --   half_of                    the digits above place k, halved
 --   past_last                  past its last digit a number has nothing
 --   low_suc                    the low n + 1 digits: the lowest, and n of the half
---   low_half, low-low          their half, and their lowest
+--   low_half, low_low          their half, and their lowest
 --   ones_half, ones_low        of digits that are all 1
---   and_half, and-odd          of what two numbers have in common
---   doubled, moved-weight      the weight of the next place, and two weights that make up 128
+--   and_half, and_odd          of what two numbers have in common
+--   doubled, moved_weight      the weight of the next place, and two weights that make up 128
 --   moved_down                 a digit that goes in at weight 128 and what stands above it, n places down
 use mathlib.Core.Path.{◌≡◌, refl, sym, ap, ◌∙◌}
 use mathlib.Core.Bool.{Bool, true, false, cond}

@@ -1,9 +1,9 @@
 -- Slots whose levels can be told before they begin.
 --   took_at_foreseen, sends_at_foreseen   a foreseen probe rests, or the slots reach it
---   ahead_odd, ahead-half       what it sends next, and what is left of it a slot later
+--   ahead_odd, ahead_half       what it sends next, and what is left of it a slot later
 --   foreseen_took               a slot later it is foreseen for the slots that are left
---   meet_odd, meet-half         the next level of a line of such probes, and the levels that are left
---   slots_foreseen, levels-foreseen     the line after the slots, and their levels
+--   meet_odd, meet_half         the next level of a line of such probes, and the levels that are left
+--   slots_foreseen, levels_foreseen     the line after the slots, and their levels
 use mathlib.Core.Path.{◌≡◌, refl, sym, ap, ap₂, ◌∙◌}
 use mathlib.Core.Bool.{Bool, true, false, cond, false≢true}
 use mathlib.Core.List.{List, [], ◌∷◌, map}

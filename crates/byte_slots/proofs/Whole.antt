@@ -1,6 +1,6 @@
 -- A probe that takes several slots in one go.
 --   took_bits_rests                          one that rests is not changed
---   sending_next, sending-last              one that sends its ID goes on, or is selected after the last bit
+--   sending_next, sending_last              one that sends its ID goes on, or is selected after the last bit
 --   matching_next, -last, -differs          one that matches its ID goes on if all bits agree, is selected after the last, or has
 --                                           differed
 --   taking_whole                            a code of which no bit has come yet is the bits

@@ -3,10 +3,10 @@
 --   shifts_linear    the register of a sum is the sum of the registers
 --   shifts_high      a number that stands above the bits that move out comes down unchanged
 --   entered_table    the register after a byte, by the register that the table has
---   shift_odd        a bit that differs from the one that falls out; shift-even, one that does not
---   Left             the bits of a byte that are still to go in, a 1 above them; left-next, one more has gone in; left-over, all have
+--   shift_odd        a bit that differs from the one that falls out; shift_even, one that does not
+--   Left             the bits of a byte that are still to go in, a 1 above them; left_next, one more has gone in; left_over, all have
 --   crc_from_next     one byte more of a slice; crc_from_done, none left
---   entered_lt, crc_from_lt, crc16Of-lt    a register of w bits stays one
+--   entered_lt, crc_from_lt, crc16_of_lt    a register of w bits stays one
 use mathlib.Core.Path.{◌≡◌, refl, sym, ap, ap₂, ◌∙◌}
 use mathlib.Core.Bool.{Bool, true, false, cond}
 use Prim.Native.Nat.{ℕ, zero, suc, ◌+◌, ◌*◌, ◌/◌, ◌%◌, ◌^◌, ◌<◌, ◌≤◌}

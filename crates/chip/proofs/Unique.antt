@@ -2,7 +2,7 @@
 use mathlib.Core.Path.{sym, ◌∙◌}
 use Rattle.checksum.proofs.Unique.{OneAnswer}
 use Rattle.chip.proofs.Chip.none.Reads as none
-use Rattle.chip.proofs.Chip.newly_fitted.Reads as newly-fitted
+use Rattle.chip.proofs.Chip.newly_fitted.Reads as newly_fitted
 use Rattle.chip.proofs.Chip.emptied.Reads as emptied
 use Rattle.chip.proofs.Chip.sends.Reads as sends
 use Rattle.chip.proofs.Chip.heard.Reads as heard
@@ -11,7 +11,7 @@ use Rattle.chip.proofs.Chip.over.Reads as over
 pub one_none : OneAnswer none.Post
 one_none κ a x y s t p q = p ∙ sym q
 
-pub one_newly_fitted : OneAnswer newly-fitted.Post
+pub one_newly_fitted : OneAnswer newly_fitted.Post
 one_newly_fitted κ a x y s t p q = p ∙ sym q
 
 pub one_emptied : OneAnswer emptied.Post

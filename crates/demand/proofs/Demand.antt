@@ -4,7 +4,7 @@
 --   promised         an outcome that the contract allows is that one
 --   exact            the demand, of the search that has just this outcome
 --   fewer            a search with no other outcomes than one that meets the demand meets it
---   promised_some    the contract allows an outcome for every state, allowance and buffer; promised-always, it has no `requires`
+--   promised_some    the contract allows an outcome for every state, allowance and buffer; promised_always, it has no `requires`
 --   demand           the demand, of the contract of search::search
 use mathlib.Core.Path.{◌≡◌, refl, sym, ap, ap₂, subst⁻¹, ◌∙◌}
 use mathlib.Core.Bool.{◌&&◌}

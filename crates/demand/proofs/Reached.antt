@@ -3,10 +3,10 @@
 --   Kept l            the line l has IDs and free entries, 64 together, the IDs distinct, of 64 bits and each right by itself, and the free
 --                     entries as at power-on
 --   accepted          an accepted ID is right by itself and new, and there is room for it
---   holds_fit         an accepted fitting adds its ID behind the others; new-id, it was none of them
+--   holds_fit         an accepted fitting adds its ID behind the others; new_id, it was none of them
 --   fitted_fit        its probe is behind the others, deaf and unmarked
 --   kept_without      a withdrawal takes its ID out from among the others
---   reached_kept      so it is on every line that calls reach; reached-sound, the same in the words of `Sound`
+--   reached_kept      so it is on every line that calls reach; reached_sound, the same in the words of `Sound`
 --   reached_search    a search leads from such a state to such a state
 use mathlib.Core.Path.{◌≡◌, refl, sym, ap, ap₂, subst, subst⁻¹, ◌∙◌}
 use mathlib.Core.Bool.{Bool, true, false, cond, false≢true}

@@ -2,7 +2,7 @@
 --   resumed_line     after a Resume exactly the probe that the last pass ended at is selected
 --   resume_none      with no marked probe on the line a Resume selects none
 --   order_of         the IDs on the line in search order
---   listed_of, number-of, complete-when, passes-used, longer-by, resume-last, none_last, fitting-one, withdrawing-one
+--   listed_of, number_of_lem, complete_when, passes_used, longer_by, resume_last, none_last, fitting_one, withdrawing_one
 --                    the sentences of the demand, of `search`
 --   capped_at        more than 64 passes do what 64 do
 use mathlib.Core.Path.{◌≡◌, refl, sym, ap, subst, subst⁻¹, ◌∙◌}

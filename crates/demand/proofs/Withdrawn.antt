@@ -1,10 +1,10 @@
 -- What a withdrawal does to a line on which no ID stands twice.
---   any_among, among-any    an ID that the test `any` does not find stands not there; one that it finds does
+--   any_among, among_any    an ID that the test `any` does not find stands not there; one that it finds does
 --   Withdrawn i l           the probe of the ID i stood between others, which are left as they were
 --   withdrawn_of            so it is where the ID is fitted
 --   fitted_line_with         the probes of a line that is laid of them
 --   others_among            what is left was there, and has another ID
---   withdrawn_fitted, withdrawn-line    an accepted withdrawal: its ID is fitted, and is gone from the line
+--   withdrawn_fitted, withdrawn_line    an accepted withdrawal: its ID is fitted, and is gone from the line
 --   withdrawn_when          an ID that is there can be withdrawn
 use mathlib.Core.Path.{◌≡◌, refl, sym, ap, subst, ◌∙◌}
 use mathlib.Core.Bool.{Bool, true, false, cond, true≢false, false≢true}

@@ -1,7 +1,7 @@
 -- What the low bits of a number say.
---   bit_one, bit-zero       one bit more of a number
+--   bit_one, bit_zero       one bit more of a number
 --   begins_child            an ID begins as a child exactly if it begins as the node and has the child's bit
---   bit_child, mod-child    an ID below a child has that child's bit, and is below the node; child-mod, and back
+--   bit_child, mod_child    an ID below a child has that child's bit, and is below the node; child_mod, and back
 --   has_split               something is at a node exactly if something is at one of its children
 use mathlib.Core.Path.{◌≡◌, refl, sym, ap, ap₂, ◌∙◌}
 use mathlib.Core.Bool.{Bool, true, false, cond, not}

@@ -1,5 +1,5 @@
 -- The leaves of the whole tree are the IDs in search order. That each ID stands there once is where distinctness is used.
---   leaves_mod, leaves-has, leaves_all    what stands at a node begins as the node says, and is there; and all that is there stands at the node
+--   leaves_mod, leaves_has, leaves_all    what stands at a node begins as the node says, and is there; and all that is there stands at the node
 --   leaves_rising                         the leaves rise
 --   length_leaves                         there are as many as IDs that begin so
 --   sorted_in_order                       `sorted` is the IDs in search order

@@ -1,5 +1,5 @@
 -- Search order is strict, so that there is one list in order at most; and one ID more, or less, leaves the others where they are.
---   before_irrefl, before-trans      no ID comes before itself; what comes before comes before all behind
+--   before_irrefl, before_trans      no ID comes before itself; what comes before comes before all behind
 --   in_order_unique                  two lists of the same IDs in order are one list
 --   in_order_more                    an ID stands somewhere in the list, and all others as they stand without it
 --   parted, widen, narrow            a member stands between two parts; what stands in them without it, and with it

@@ -1,5 +1,5 @@
 -- No triplet of a pass that began with presence ends with both levels 1.
---   used_from, ends-from   the passes from a bridge on are those that `searched` takes
+--   used_from, ends_from   the passes from a bridge on are those that `searched` takes
 --   there                  presence means that an ID is there
 --   begins                 a pass begins on a line with the IDs that were there when the search began, nothing pending
 --   never_both_one         the statement

@@ -2,8 +2,8 @@
 --   stepped f i l      l with f done to each of its first i entries
 --   stepped_next       one entry more; stepped_kept, one that f leaves as it is
 --   both, first_of, rest_of     two tests in a row
---   take_beyond, drop-beyond    a count beyond the table's end means the whole table
---   all_none           no entry fails a test yet; all-next, one more passes it; all-fails, one fails it
+--   take_beyond, drop_beyond    a count beyond the table's end means the whole table
+--   all_none           no entry fails a test yet; all_next, one more passes it; all_fails, one fails it
 --   any_all            some entry passes a test, unless all fail it
 --   any_map            a test of what a function makes of each entry
 use mathlib.Core.Path.{◌≡◌, refl, sym, ap, ◌∙◌}

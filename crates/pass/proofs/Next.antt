@@ -1,7 +1,7 @@
 -- One pass of the passes that are allowed, by how it ends.
 --   next i c b       the pass that `searched` takes next
---   searched_absent, searched-next   no presence; an ID and what comes after it
---   searched_last, searched-more     that ID is the last one; or the next pass begins with a conflict
+--   searched_absent, searched_next   no presence; an ID and what comes after it
+--   searched_last, searched_more     that ID is the last one; or the next pass begins with a conflict
 use mathlib.Core.Path.{◌≡◌, ap, ◌∙◌}
 use mathlib.Core.Bool.{Bool, true, false, cond}
 use mathlib.Core.List.{[], ◌∷◌}

@@ -1,5 +1,5 @@
 -- Which slots change a probe, and what it sends in them.
---   took_rests, sends-rests        a probe that rests is not changed and sends nothing
+--   took_rests, sends_rests        a probe that rests is not changed and sends nothing
 --   took_at_reached, sends_at_reached    by whether a slot at a speed reaches the probe
 --   sends_at_sends                  one that does not send 0 does so at no speed
 --   took_at_rests, sends_at_rests    at whatever speed a slot comes, a probe that rests is not changed and sends nothing

@@ -1,7 +1,7 @@
 -- Each contract leaves one answer for each argument.
 use mathlib.Core.Path.{sym, ◌∙◌}
 use Rattle.checksum.proofs.Unique.{OneAnswer}
-use Rattle.probe.proofs.Probe.newly_fitted.Reads as newly-fitted
+use Rattle.probe.proofs.Probe.newly_fitted.Reads as newly_fitted
 use Rattle.probe.proofs.Probe.reached.Reads as reached
 use Rattle.probe.proofs.Probe.sends.Reads as sends
 use Rattle.probe.proofs.Probe.took.Reads as took
@@ -10,7 +10,7 @@ use Rattle.probe.proofs.Probe.differed.Reads as differed
 use Rattle.probe.proofs.Probe.rests.Reads as rests
 use Rattle.probe.proofs.Probe.reset.Reads as reset
 
-pub one_newly_fitted : OneAnswer newly-fitted.Post
+pub one_newly_fitted : OneAnswer newly_fitted.Post
 one_newly_fitted κ a x y s t p q = p ∙ sym q
 
 pub one_reached : OneAnswer reached.Post

@@ -1,6 +1,6 @@
 -- The wrong searches, each against the demand on a line of A, of C, of A and C, or of A, B and C.
 --   ours             the search itself meets the demand by the same frame
---   resumed_one      a Resume selects one probe: two that are said to be the one are the same; resumed-some, it selects one
+--   resumed_one      a Resume selects one probe: two that are said to be the one are the same; resumed_some, it selects one
 use Prim.Native.Nat.{ℕ, zero, suc, ◌+◌, ◌*◌, ◌%◌, ◌≤◌, ◌<◌, min, max}
 use mathlib.Core.Bool.{Bool, true, false, cond, ◌&&◌, false≢true}
 use mathlib.Core.List.Memᴰ

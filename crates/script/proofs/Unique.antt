@@ -15,17 +15,17 @@ use Rattle.script.specs.declared.Reader.{Reader}
 use Rattle.script.specs.contracts.opened as opened
 use Rattle.script.specs.contracts.moved as moved
 use Rattle.script.specs.contracts.bits as bits
-use Rattle.script.proofs.bits_from.Reads as bits-from
+use Rattle.script.proofs.bits_from.Reads as bits_from
 use Rattle.script.proofs.count_of.Reads as count_of
-use Rattle.script.proofs.is_script.Reads as is-script
+use Rattle.script.proofs.is_script.Reads as is_script
 
-pub one_bits_from : OneAnswer bits-from.Post
+pub one_bits_from : OneAnswer bits_from.Post
 one_bits_from κ a x y s t p q = p ∙ sym q
 
 pub one_count_of : OneAnswer count_of.Post
 one_count_of κ a x y s t p q = p ∙ sym q
 
-pub one_is_script : OneAnswer is-script.Post
+pub one_is_script : OneAnswer is_script.Post
 one_is_script κ a x y s t p q = p ∙ sym q
 
 -- ---- the functions over the reader

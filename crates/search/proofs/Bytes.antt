@@ -2,7 +2,7 @@
 --   length_list_of    eight for each ID
 --   get_d_bytes_from   byte k of an ID
 --   list_of_append    the bytes of two lists of IDs
---   written_more, length-written   one ID more in the list buffer, which is as long as it was
+--   written_more, length_written   one ID more in the list buffer, which is as long as it was
 use mathlib.Core.Path.{◌≡◌, refl, sym, ap, ap₂, ◌∙◌}
 use mathlib.Core.List.{List, [], ◌∷◌, ◌++◌, append-nil, append_assoc}
 use Prim.Native.Nat.{ℕ, zero, suc, ◌+◌, ◌*◌, ◌/◌, ◌%◌, ◌^◌, ◌<◌, ◌≤◌}

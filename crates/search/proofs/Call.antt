@@ -1,5 +1,5 @@
 -- The two outcomes of the call that is allowed n passes, for the list buffer d and the bridge b.
---   number_short, number-roomy     the number, with a buffer that is too short and with one that is not
+--   number_short, number_roomy     the number, with a buffer that is too short and with one that is not
 --   Answered n d b a s x           the answer is a, the state s, and the buffer x
 --   short, done                    the buffer is too short; the list is written
 use mathlib.Core.Path.{◌≡◌, ap}

@@ -2,7 +2,7 @@
 -- on puts it behind what it has.
 --   onward p r       the result r of the passes to come, behind the IDs p
 --   onward_none      no ID is found yet
---   onward-f         one pass more, by how it ends: absent, last, more; onward-over, no pass is left
+--   onward_f         one pass more, by how it ends: absent, last, more; onward_over, no pass is left
 --   Going            a search under way, and the list so far
 --   going_start      before its first pass
 --   stands           what is handed back stands for the whole

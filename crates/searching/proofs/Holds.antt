@@ -1,5 +1,5 @@
 -- The line keeps its IDs, and what it has beside them, in everything but a fitting.
---   obeyed_id, took-id, reset-id    a probe keeps its ID
+--   obeyed_id, took_id, reset_id    a probe keeps its ID
 --   holds-f               the line keeps its IDs and its free entries in f: slot, reset, slots, time, command
 --   write_line            a write leaves the line
 use mathlib.Core.Path.{◌≡◌, refl, ap, ap₂, subst⁻¹, ◌∙◌}

@@ -1,9 +1,9 @@
 -- A pass ends where the enumeration says, notes the last conflict that it says, and shows levels 1,1 after none of its triplets.
---   triplet_sbr .. triplet-line       what the bridge shows after the triplet of bit k, and its line
+--   triplet_sbr .. triplet_line       what the bridge shows after the triplet of bit k, and its line
 --   tripled_on, walked_on             a pass on the path a before bit k is on the path with the bit taken before the next; so on to bit 64
---   tripled_heard, walked-heard       after such a triplet one of its levels is 0
---   reset_ppd, reset-line, reset-idle a 1-Wire Reset
---   commanded_line, commanded-idle    a 1-Wire Reset and a Write Byte
+--   tripled_heard, walked_heard       after such a triplet one of its levels is 0
+--   reset_ppd, reset_line, reset_idle a 1-Wire Reset
+--   commanded_line, commanded_idle    a 1-Wire Reset and a Write Byte
 --   searching_under, passed_on        a pass before its first triplet, and a whole one
 --   under_idle                        the bridge after it is as ready as before
 use mathlib.Core.Path.{◌≡◌, refl, sym, ap, ap₂, subst, subst⁻¹, fun_ext, ◌∙◌}

@@ -1,13 +1,13 @@
 -- Slots over a line that is given as its probes and its free entries: the line in the middle of a pass in closed form. A pass goes on at
 -- standard speed, which its reset has given to every probe.
 --   line_of_parts                  every line is given so
---   f-lineOf                      what f makes of such a line, for fitted, ids_of, on_fitted, level, slot, after_reset
+--   f_line_of                     what f makes of such a line, for fitted, ids_of, on_fitted, level, slot, after_reset
 --   slot_quiet                    a slot in which no probe sends
 --   slots_reset                 a byte written after a reset is obeyed by all
---   first_slot .. third-slot      the slots of bit k on the path a
---   first_level_lem, second-level     the levels of the first two: is the branch 0 there, is the branch 1 there
+--   first_slot .. third_slot      the slots of bit k on the path a
+--   first_level_lem, second_level_lem     the levels of the first two: is the branch 0 there, is the branch 1 there
 --   obeyed_search                 Search ROM puts every probe to bit 0 of the empty path
---   id_standing, ids-standing     the probes of the closed form have the IDs that it is made of
+--   id_standing, ids_standing     the probes of the closed form have the IDs that it is made of
 use mathlib.Core.Path.{◌≡◌, refl, sym, ap, ap₂, fun_ext, ◌∙◌}
 use mathlib.Core.Bool.{Bool, true, false, cond, not}
 use mathlib.Core.List.{List, [], ◌∷◌, ◌++◌, append-nil, map, map-map}

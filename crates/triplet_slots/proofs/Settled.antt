@@ -1,10 +1,10 @@
 -- The three slots of a triplet on a line where all is settled.
 --   either_way                              a settled probe rests, or is reached in the first slot of a search bit
 --   sends_after v a p                        what p lets the line be in the slot after one of level a
---   rests_after, first-sent, second-sent    what such a probe sends in the first two slots
+--   rests_after, first_sent, second_sent    what such a probe sends in the first two slots
 --   second_level_lem                            the level of a second write-one slot
 --   triplet_settled                         the line after the triplet
---   outcome, decided-by                     what a searching probe is then, by whether the level is its bit and that the last
+--   outcome, decided_by                     what a searching probe is then, by whether the level is its bit and that the last
 --   all_passes                              a test of the first entries of a table, where one more passes it
 use mathlib.Core.Path.{◌≡◌, refl, sym, ap, ap₂, ◌∙◌}
 use mathlib.Core.Bool.{Bool, true, false, cond, not, false≢true}

@@ -13,7 +13,7 @@ use Rattle.wire.proofs.Wire.slots.Reads as slots
 use Rattle.wire.proofs.Wire.triplet.Reads as triplet
 use Rattle.wire.proofs.emptied.Reads as emptied
 use Rattle.wire.proofs.without.Reads as without
-use Rattle.wire.proofs.all_calm.Reads as all-calm
+use Rattle.wire.proofs.all_calm.Reads as all_calm
 
 pub one_none : OneAnswer none.Post
 one_none κ a x y s t p q = p ∙ sym q
@@ -38,5 +38,5 @@ one_emptied κ a x y s t p q = p ∙ sym q
 pub one_without : OneAnswer without.Post
 one_without κ a x y s t p q = p ∙ sym q
 
-pub one_all_calm : OneAnswer all-calm.Post
+pub one_all_calm : OneAnswer all_calm.Post
 one_all_calm κ a x y s t p q = p ∙ sym q

@@ -1,6 +1,6 @@
 -- The probes that a withdrawal leaves.
 --   others_length                 they are no more than there were
---   others_passed, others-kept    one probe more is gone through: the one withdrawn; another
+--   others_passed, others_kept    one probe more is gone through: the one withdrawn; another
 --   others_fitted                 they are fewer exactly if the ID is fitted
 --   line_with_more                 another probe goes behind those that are laid
 --   laid_passed, laid_kept        the line that is laid, with one entry more gone through
