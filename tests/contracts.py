@@ -19,6 +19,10 @@ MODULE = re.compile(r'^ *module\b.*$', re.M)
 EVERY_MODEL = 'module _ {M : Type 1} {𝓤 : Ura M} (𝓛 : Logic 𝓤) (mem : Memory → SProp 𝓤) (run : Routine → Fun 𝓤) where'
 
 
+# A law of a generic function begins with the types and constants of the call. Their own types are left to the contract that takes them.
+GENERIC = re.compile(r'((?:\(\w+ : _\) )+)→ (.*)')
+
+
 class Function(NamedTuple):
     """A public function: its crate, the type or module that it is in, if any, and its name; its text, up to the next function; its
     parameters as (name, type), and the type of its result."""
@@ -27,7 +31,7 @@ class Function(NamedTuple):
     within: str
     name: str
     text: str
-    parameters: list
+    parameters: tuple
     result: str
 
     @property
@@ -42,6 +46,17 @@ class Function(NamedTuple):
     def law(self):
         """The name of its law: a C name stands there without the crate's name before it."""
         return 'one_' + self.name.removeprefix(f'{self.crate}_' if self.crate == 'trelvox' else '')
+
+    @property
+    def law_of_type(self):
+        """The name of its law where a function of the crate has the method's name."""
+        return f'one_{self.within.lower()}_{self.name}'
+
+    @property
+    def generic(self):
+        """It has parameters besides lifetimes, of types or constants."""
+        named = re.match(r'.*?\bfn\s+\w+\s*<([^>]*)>', self.text, re.S)
+        return named is not None and any(not word.strip().startswith("'") for word in named[1].split(','))
 
     @property
     def exported(self):
@@ -87,7 +102,7 @@ def functions(crate):
             within = next((kind for kind, begin, end in blocks if begin < public.start() < end), module)
             rest = re.split(r'\bfn\b', text[public.end():], maxsplit=1)[0]
             head = HEAD.match(rest)
-            parameters, result = list(parameters_of(head[1])), ' '.join((head[2] or '').split())
+            parameters, result = tuple(parameters_of(head[1])), ' '.join((head[2] or '').split())
             found.append(Function(crate.name, within, public[1], public[0] + rest, parameters, result))
     return found
 
@@ -121,8 +136,22 @@ def due(function):
     return [('.Reads', re.escape('OneAnswer {}.Post')), ('', re.escape('OneEnsured 𝓤 {}.ended ({}.clauses 𝓛 mem run)'))]
 
 
+def instance(function, statement):
+    """What the law of a generic function says of each instance, its contract without the instance's types and constants, in their order;
+    the statement itself of any other function."""
+    found = GENERIC.fullmatch(statement) if function.generic else None
+    if not found:
+        return statement
+    named = re.findall(r'\((\w+) : _\)', found[1])
+    if len(set(named)) < len(named):
+        return statement
+    taken = ' '.join(named)
+    return re.sub(rf'\((\w+\.Post) {taken}\)', r'\1', found[2], count=1)
+
+
 def is_due(function, statement, names):
     """The statement is one that is due, over this very function's contract."""
+    statement = instance(function, statement)
     for part, pattern in due(function):
         for name, path in names:
             if path == (function.crate, function.path + part):
@@ -143,7 +172,8 @@ def misnamed(crate, text):
         if not SHARED.match(line):
             yield f'{crate.name}: no form of law comes from there: {line}'
     known = {form for forms in SHARED.findall(text) for form in forms.split(', ')} | set(FORM.findall(text))
-    for form in sorted({statement.split()[0] for _, statement in LAW.findall(text)} - known):
+    stated = [' '.join(statement.split()) for _, statement in LAW.findall(text)]
+    for form in sorted({GENERIC.sub(r'\2', statement).split()[0] for statement in stated} - known):
         yield f'{crate.name}: {form} is neither defined nor shared in proofs/Unique.antt'
 
 
@@ -153,17 +183,23 @@ def unique(crate):
     return re.sub(r'--[^\n]*', '', page.read_text()) if page.exists() else ''
 
 
+def law_names(public):
+    """The public functions of a crate, each with the name of its law."""
+    free = [function.name for function in public if not function.within]
+    return {function: function.law_of_type if function.within and function.name in free else function.law for function in public}
+
+
 def lawless(crate, text):
     """Public functions of a crate without a law of one answer over their own contract, and laws of no public function."""
     names = [(name, (owner, path)) for owner, path, name in USE.findall(text)]
     laws = {law: ' '.join(statement.split()) for law, statement in LAW.findall(text)}
-    public = functions(crate)
-    for function in public:
-        if function.law not in laws:
-            yield f'{crate.name}: {function.shown} is public and has no law {function.law} in proofs/Unique.antt'
-        elif not is_due(function, laws[function.law], names):
-            yield f'{crate.name}: {function.law} is not stated over the contract of {function.shown}: {laws[function.law]}'
-    for law in sorted(set(laws) - {function.law for function in public}):
+    named = law_names(functions(crate))
+    for function, law in named.items():
+        if law not in laws:
+            yield f'{crate.name}: {function.shown} is public and has no law {law} in proofs/Unique.antt'
+        elif not is_due(function, laws[law], names):
+            yield f'{crate.name}: {law} is not stated over the contract of {function.shown}: {laws[law]}'
+    for law in sorted(set(laws) - set(named.values())):
         yield f'{crate.name}: {law} in proofs/Unique.antt is of no public function'
     yield from misnamed(crate, text)
 

@@ -4,32 +4,27 @@
 // is lost is told on standard error.
 #![tactic(auto)]
 
-ghost use Rattle.std.specs.Prelude.{◌≤◌, length};
+use std::io;
+use std::io::{Cursor, Read, Write};
 
-use std::io::{Read, Write};
+// One byte more than the longest script.
+const MOST: usize = 4097;
 
-// Reads until the buffer is full, the input ends or a read fails, and answers how many bytes that is.
-fn read_full(input: &mut impl Read, buf: &mut [u8]) -> usize
-    ensures { result ≤ length buf.new }
-{
-    let mut done = 0;
-    while done < buf.len() {
-        match input.read(&mut buf[done..]) {
-            Ok(n) if 0 < n => done += n,
-            _ => break,
-        }
-    }
-    done
-}
-
-fn main(rt: HostRuntime) {
-    let mut script = [0u8; 4097];
-    let n = read_full(&mut rt.stdin(), &mut script);
+// Runs the script and prints its lines.
+fn print(rt: &HostRuntime, script: &[u8]) {
     let mut out = [0u8; transcript::MOST];
-    let len = output::output(&script[..n], &mut out);
+    let len = output::output(script, &mut out);
     if rt.stdout().write_all(&out[..len]).is_err() {
         let _ = rt
             .stderr()
             .write_all(b"bench: not all of the output was written\n");
     }
+}
+
+// Where the input cannot be read any further, what came is the script.
+fn main(rt: HostRuntime) {
+    let mut script = Cursor::new([0u8; MOST]);
+    let _ = io::copy(&mut rt.stdin().take(MOST as u64), &mut script);
+    let end = script.position().min(MOST as u64) as usize;
+    print(&rt, &script.get_ref()[..end]);
 }

@@ -3,6 +3,10 @@
 --   speed_of r             the bridge's speed
 --   is_strong x            SPU is set in the configuration x
 --   good_configuration x   the configuration byte x is accepted
+--   number_of e            the number of the refusal e
+--   number_by f r          the number that the result r stands for, where refusals have the numbers f
+--   number_in r            the number that the result r of a write stands for
+--   bridge_in b r          the state after a call on the state b with the result r
 --   status_of r            the status register
 --   read_of b              what a read gives
 --   accepted c x r        the registers after an accepted write of the code c and the parameter x
@@ -12,7 +16,7 @@
 --   after_fitting x b      the state after fitting the ID of the bytes x
 --   after_withdrawal x b   the state after withdrawing it
 --   command x b           the state after the write x and time passing
-use Rattle.std.specs.Prelude.{ℕ, ◌+◌, ◌*◌, ◌/◌, ◌%◌, Bool, true, false, cond, ◌&&◌, List, [], ◌∷◌, eqb, length, get_or}
+use Rattle.std.specs.Prelude.{ℕ, ◌+◌, ◌*◌, ◌/◌, ◌%◌, Bool, true, false, cond, ◌&&◌, List, [], ◌∷◌, eqb, length, get_or, Option, None, Some, Result, Ok, Err}
 use Rattle.probe.specs.Probe.{digit}
 use Rattle.line.specs.declared.Line.{Line}
 use Rattle.line.specs.Line.{bare, level, slot, slots, levels, after_reset, present, after_fit}
@@ -22,6 +26,8 @@ use Rattle.bridge.specs.declared.Pointer.{Pointer}
 use Rattle.bridge.specs.declared.Pointer.TheVariants.{Status, ReadData, Configuration}
 use Rattle.bridge.specs.declared.Pending.{Pending}
 use Rattle.bridge.specs.declared.Pending.TheVariants.{Nothing, Reset, SingleBit, WriteByte, ReadByte, Triplet}
+use Rattle.bridge.specs.declared.Refusal.{Refusal}
+use Rattle.bridge.specs.declared.Refusal.TheVariants.{Unknown, Busy, Length, Parameter}
 use Rattle.bridge.specs.declared.StatusBits.{StatusBits}
 use Rattle.bridge.specs.declared.Registers.{Registers}
 use Rattle.bridge.specs.declared.Bridge.{Bridge}
@@ -161,6 +167,26 @@ accepted c x r =
 
 -- ---- the checks of a write
 
+-- The refusals of a write, by their numbers in the table of document 01.
+abbrev pub number_of : Refusal → ℕ
+number_of Unknown = 5
+number_of Busy = 6
+number_of Length = 7
+number_of Parameter = 8
+
+-- A result stands for its refusal's number, the refusals having the numbers f, and for 0 where nothing is refused.
+abbrev pub number_by : {T E : Type 0} → (E → ℕ) → Result T E → ℕ
+number_by f (Ok x) = 0
+number_by f (Err e) = f e
+
+abbrev pub number_in : {T : Type 0} → Result T Refusal → ℕ
+number_in r = number_by number_of r
+
+-- A refused call leaves the state as it was.
+abbrev pub bridge_in : {E : Type 0} → Bridge → Result Bridge E → Bridge
+bridge_in b (Ok c) = c
+bridge_in b (Err e) = b
+
 -- How many bytes a command has in all; 0 for a code that is none of the eight.
 unfoldable pub bytes_of : ℕ → ℕ
 bytes_of c =
@@ -173,6 +199,9 @@ bytes_of c =
     (cond (eqb c 0x96) 1
     (cond (eqb c 0x78) 2 0)))))))
 
+abbrev pub wanted_of : ℕ → Result ℕ Refusal
+wanted_of c = cond (eqb (bytes_of c) 0) (Err Unknown) (Ok (bytes_of c))
+
 -- Device Reset and Set Read Pointer are taken while a command is pending; the others are not.
 unfoldable pub taken_while_busy : ℕ → Bool
 taken_while_busy c = cond (eqb c 0xF0) true (eqb c 0xE1)
@@ -180,6 +209,10 @@ taken_while_busy c = cond (eqb c 0xF0) true (eqb c 0xE1)
 -- The pointer codes are F0h, E1h and C3h.
 unfoldable pub good_pointer : ℕ → Bool
 good_pointer x = cond (eqb x 0xF0) true (cond (eqb x 0xE1) true (eqb x 0xC3))
+
+-- The register that a code names, where it is a pointer code.
+abbrev pub pointed_by : ℕ → Option Pointer
+pointed_by x = cond (good_pointer x) (Some (pointer_of x)) None
 
 -- In a configuration byte bit 1 is 0, and the upper nibble is the complement of the lower one: the two make Fh. APU, SPU and 1WS may be any
 -- (document 02, R-12).

@@ -1,25 +1,15 @@
 // The commands as they are accepted: what each does at once.
 ghost use Rattle.std.specs.Prelude.{◌≡◌};
-ghost use Rattle.bridge.specs.Bridge.{cleared as cleared_but, changed as changed_to, set_pointer, configured as configured_to};
-ghost use Rattle.bridge.specs.Bridge.{pullup_under, kept_configuration, pended as pended_of, top_bit, pointer_of, accepted as accepted_as};
+ghost use Rattle.bridge.specs.Bridge.{cleared as cleared_but, set_pointer, configured as configured_to};
+ghost use Rattle.bridge.specs.Bridge.{pullup_under, kept_configuration, pended as pended_of, top_bit, accepted as accepted_as};
 
+use crate::checks::pointed;
 use crate::{Bridge, Pending, Pointer, Registers, StatusBits, strong};
 
 fn top_bit(x: u8) -> bool
     ensures { result ≡ top_bit x }
 {
     x / 128 % 2 == 1
-}
-
-#[tactic(auto, unfolding(crate::specs::Bridge::pointer_of))]
-fn pointed(x: u8) -> Pointer
-    ensures { result ≡ pointer_of x }
-{
-    match x {
-        Bridge::POINTER_STATUS => Pointer::Status,
-        Bridge::POINTER_READ_DATA => Pointer::ReadData,
-        _ => Pointer::Configuration,
-    }
 }
 
 impl Registers {
@@ -43,46 +33,30 @@ impl Registers {
         }
     }
 
-    // Every other register stays.
-    fn changed(self, pointer: Pointer, pending: Pending) -> Registers
-        ensures { result ≡ changed_to pointer pending self }
-    {
-        let status = self.status;
-        Registers {
-            status,
-            configuration: self.configuration,
-            pointer,
-            readout: self.readout,
-            pending,
-            pullup: self.pullup,
-        }
-    }
-
-    fn set_pointer(self, x: u8) -> Registers
+    // A code that names no register has been refused.
+    #[tactic(auto, unfolding(crate::specs::Bridge::good_pointer, crate::specs::Bridge::pointer_of))]
+    fn set_pointer(mut self, x: u8) -> Registers
         ensures { result ≡ set_pointer x self }
     {
-        let pending = self.pending;
-        self.changed(pointed(x), pending)
+        self.pointer = pointed(x).unwrap_or(Pointer::Configuration);
+        self
     }
 
     // Whether the pull-up is on under a new configuration: SPU 0 ends it.
     fn pullup_under(self, x: u8) -> bool
         ensures { result ≡ pullup_under x self }
     {
-        if strong(x) { self.pullup } else { false }
+        strong(x) && self.pullup
     }
 
     fn configured(mut self, x: u8) -> Registers
         ensures { result ≡ configured_to x self }
     {
-        let mut status = self.status;
-        status.rst = false;
-        self.status = status;
-        let on = self.pullup_under(x);
-        self.pullup = on;
+        self.status.rst = false;
+        self.pullup = self.pullup_under(x);
         self.configuration = x % 16;
-        let pending = self.pending;
-        self.changed(Pointer::Configuration, pending)
+        self.pointer = Pointer::Configuration;
+        self
     }
 
     // The pull-up ends, and SPU is cleared with it. Where it is not on, SPU is what the command will switch on.
@@ -99,13 +73,15 @@ impl Registers {
     fn pended(mut self, pending: Pending) -> Registers
         ensures { result ≡ pended_of pending self }
     {
-        let kept = self.kept_configuration();
-        self.configuration = kept;
+        self.configuration = self.kept_configuration();
+        self.pointer = Pointer::Status;
+        self.pending = pending;
         self.pullup = false;
-        self.changed(Pointer::Status, pending)
+        self
     }
 
     // Every code that is not named here is that of the triplet: an unknown one has been refused.
+    // As it is: the definition `accepted` takes a write's bytes, so an enum of commands would repeat the codes and be turned back.
     #[tactic(auto, unfolding(crate::specs::Bridge::accepted))]
     pub(crate) fn accepted(self, code: u8, x: u8) -> Registers
         ensures { result ≡ accepted_as code x self }

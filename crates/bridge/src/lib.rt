@@ -13,21 +13,35 @@ mod time;
 
 ghost use Rattle.std.specs.Prelude.{◌≡◌, ◌*◌, ◌≤◌};
 ghost use Rattle.probe.specs.Probe.{digit};
-ghost use Rattle.line.specs.Line.{fit_number};
-ghost use Rattle.withdrawal.specs.Withdrawal.{withdraw_number};
-ghost use Rattle.bridge.specs.Bridge.{power_on, speed_of, is_strong, status_of, read_of, write_number, after_write, after_time};
+ghost use Rattle.line.specs.Line.{number_returned as line_number, fit_number};
+ghost use Rattle.withdrawal.specs.Withdrawal.{number_returned as withdrawal_number, withdraw_number};
+ghost use Rattle.bridge.specs.Bridge.{power_on, speed_of, is_strong, status_of, read_of, number_of, number_in, number_by, bridge_in, write_number, after_write, after_time};
 ghost use Rattle.bridge.specs.Bridge.{after_fitting, after_withdrawal};
 
-use line::{DONE, Line};
+use line::Line;
 
-// The refusals of a write, by their numbers in the table of document 01.
-pub const REFUSED_UNKNOWN: u8 = 5;
+// Why a write is refused.
+#[derive(Clone, Copy, PartialEq, Eq)]
+pub enum Refusal {
+    Unknown,
+    Busy,
+    Length,
+    Parameter,
+}
 
-pub const REFUSED_BUSY: u8 = 6;
-
-pub const REFUSED_LENGTH: u8 = 7;
-
-pub const REFUSED_PARAMETER: u8 = 8;
+impl Refusal {
+    // Its number in the table of document 01.
+    pub fn number(self) -> u8
+        ensures { result ≡ number_of self }
+    {
+        match self {
+            Refusal::Unknown => 5,
+            Refusal::Busy => 6,
+            Refusal::Length => 7,
+            Refusal::Parameter => 8,
+        }
+    }
+}
 
 // The register that a read gives.
 #[derive(Clone, Copy)]
@@ -38,6 +52,7 @@ pub enum Pointer {
 }
 
 // The 1-Wire command that waits for time to pass.
+// As it is: with an Option of the five, each match over them has a Some round every arm, and none is shorter.
 #[derive(Clone, Copy)]
 pub enum Pending {
     Nothing,
@@ -75,18 +90,11 @@ pub struct Bridge {
     pub line: Line,
 }
 
-// What a write, a fitting or a withdrawal answers: its number, and the bridge afterwards.
-#[derive(Clone, Copy)]
-pub struct Answer {
-    pub number: u8,
-    pub bridge: Bridge,
-}
-
 // What a bit adds to a register where it stands for the weight.
 fn weighed(bit: bool, weight: u8) -> u8
     ensures { (result ≡ digit bit * weight) × (result ≤ weight) }
 {
-    if bit { weight } else { 0 }
+    u8::from(bit) * weight
 }
 
 // SPU is set in a configuration.
@@ -98,16 +106,17 @@ fn strong(x: u8) -> bool
 
 impl Registers {
     // 1WS: the speed of slots and resets.
-    pub(crate) fn speed(self) -> u32
+    // As it is: a slot takes its speed as a number (DECISIONS, ID-12).
+    pub fn speed(self) -> u32
         ensures { result ≡ speed_of self }
     {
-        (self.configuration / 8 % 2) as u32
+        u32::from(self.configuration / 8 % 2)
     }
 
+    #[tactic(auto, unfolding(crate::specs::Bridge::status_of))]
     fn status(self) -> u8
         ensures { result ≡ status_of self }
     {
-        let busy = self.busy();
         let status = self.status;
         weighed(status.dir, 128)
             + weighed(status.tsb, 64)
@@ -115,12 +124,13 @@ impl Registers {
             + weighed(status.rst, 16)
             + 8
             + weighed(status.ppd, 2)
-            + weighed(busy, 1)
+            + weighed(self.busy(), 1)
     }
 }
 
 impl Bridge {
     // The command codes.
+    // As it is: document 01 has the codes belong to the bridge as named constants (docs/FORMS.md), and a write carries any byte.
     pub const DEVICE_RESET: u8 = 0xF0;
 
     pub const SET_READ_POINTER: u8 = 0xE1;
@@ -145,6 +155,7 @@ impl Bridge {
     pub const POINTER_CONFIGURATION: u8 = 0xC3;
 
     // The state at power-on: no probe is fitted and the status reads 18h.
+    #[tactic(auto, unfolding(crate::specs::Bridge::power_on))]
     pub fn power_on() -> Bridge
         ensures { result ≡ power_on }
     {
@@ -155,23 +166,15 @@ impl Bridge {
     }
 
     // A write of any bytes. A refused one leaves the bridge as it was.
-    pub fn write(mut self, bytes: &[u8]) -> Answer
-        ensures { (result.number ≡ write_number bytes.now self) × (result.bridge ≡ after_write bytes.now self) }
+    #[tactic(auto, using(crate::proofs::Writes::writes))]
+    pub fn write(mut self, bytes: &[u8]) -> Result<Bridge, Refusal>
+        ensures number_value { number_in result ≡ write_number bytes.now self }
+        ensures bridge_value { bridge_in self result ≡ after_write bytes.now self }
     {
-        let number = self.write_number(bytes);
-        if number != DONE {
-            return Answer {
-                number,
-                bridge: self,
-            };
-        }
-        let before = self.registers;
-        let after = before.accepted(byte::at(bytes, 0), byte::at(bytes, 1));
-        self.registers = after;
-        Answer {
-            number,
-            bridge: self,
-        }
+        self.checked(bytes)?;
+        let (code, parameter) = (byte::at(bytes, 0), byte::at(bytes, 1));
+        self.registers = self.registers.accepted(code, parameter);
+        Ok(self)
     }
 
     // What a read gives. It changes nothing.
@@ -180,8 +183,7 @@ impl Bridge {
         ensures { result ≡ read_of self }
     {
         let registers = self.registers;
-        let pointer = registers.pointer;
-        match pointer {
+        match registers.pointer {
             Pointer::Status => registers.status(),
             Pointer::ReadData => registers.readout,
             Pointer::Configuration => registers.configuration % 16,
@@ -189,13 +191,12 @@ impl Bridge {
     }
 
     // Time passes: what is pending has its effect.
-    #[tactic(auto, unfolding(crate::specs::Bridge::after_time, crate::specs::Bridge::finished_of))]
+    // As it is: what is pending says which step is taken, and no caller hands one in.
+    #[tactic(auto, using(crate::proofs::Eight::time_of_byte), unfolding(crate::specs::Bridge::after_time, crate::specs::Bridge::finished_of))]
     pub fn wait(self) -> Bridge
         ensures { result ≡ after_time self }
     {
-        let registers = self.registers;
-        let pending = registers.pending;
-        match pending {
+        match self.registers.pending {
             Pending::Nothing => self,
             Pending::Reset => self.finished_reset(),
             Pending::SingleBit { bit } => self.finished_bit(bit),
@@ -205,30 +206,23 @@ impl Bridge {
     }
 
     // A probe is fitted, deaf and unmarked. A refused one leaves the bridge as it was. That a command is pending does not matter.
-    pub fn fit(mut self, id: &[u8; 8]) -> Answer
-        ensures { (result.number ≡ fit_number id.now self.line) × (result.bridge ≡ after_fitting id.now self) }
+    #[tactic(auto, unfolding(crate::specs::Bridge::after_fitting))]
+    pub fn fit(mut self, id: &[u8; 8]) -> Result<Bridge, line::Refusal>
+        ensures number_value { number_by line_number result ≡ fit_number id.now self.line }
+        ensures bridge_value { bridge_in self result ≡ after_fitting id.now self }
     {
-        let before = self.line;
-        let fitting = before.fit(id);
-        let after = fitting.line;
-        self.line = after;
-        Answer {
-            number: fitting.number,
-            bridge: self,
-        }
+        self.line = self.line.fit(id)?;
+        Ok(self)
     }
+
     // A probe is withdrawn, whatever it was doing. A refused one leaves the bridge as it was. What is pending stays, and will find the line
     // without the probe.
-    pub fn withdraw(mut self, id: &[u8; 8]) -> Answer
-        ensures { (result.number ≡ withdraw_number id.now self.line) × (result.bridge ≡ after_withdrawal id.now self) }
+    #[tactic(auto, unfolding(crate::specs::Bridge::after_withdrawal))]
+    pub fn withdraw(mut self, id: &[u8; 8]) -> Result<Bridge, withdrawal::Refusal>
+        ensures number_value { number_by withdrawal_number result ≡ withdraw_number id.now self.line }
+        ensures bridge_value { bridge_in self result ≡ after_withdrawal id.now self }
     {
-        let before = self.line;
-        let withdrawal = withdrawal::withdraw(before, id);
-        let left = withdrawal.line;
-        self.line = left;
-        Answer {
-            number: withdrawal.number,
-            bridge: self,
-        }
+        self.line = withdrawal::withdraw(self.line, id)?;
+        Ok(self)
     }
 }

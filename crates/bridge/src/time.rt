@@ -10,14 +10,9 @@ impl Registers {
     fn byte(self) -> u8
         ensures { result ≡ byte_of self.pending }
     {
-        let pending = self.pending;
-        match pending {
-            Pending::Nothing => 0xFF,
-            Pending::Reset => 0xFF,
-            Pending::SingleBit { bit: _ } => 0xFF,
+        match self.pending {
             Pending::WriteByte { byte } => byte,
-            Pending::ReadByte => 0xFF,
-            Pending::Triplet { direction: _ } => 0xFF,
+            _ => 0xFF,
         }
     }
 
@@ -25,14 +20,9 @@ impl Registers {
     fn read_data(self, levels: u8) -> u8
         ensures { result ≡ read_data_of self.pending levels self.readout }
     {
-        let pending = self.pending;
-        match pending {
-            Pending::Nothing => self.readout,
-            Pending::Reset => self.readout,
-            Pending::SingleBit { bit: _ } => self.readout,
-            Pending::WriteByte { byte: _ } => self.readout,
+        match self.pending {
             Pending::ReadByte => levels,
-            Pending::Triplet { direction: _ } => self.readout,
+            _ => self.readout,
         }
     }
 
@@ -40,74 +30,56 @@ impl Registers {
     fn switches_on(self) -> bool
         ensures { result ≡ switches_on self.pending }
     {
-        let pending = self.pending;
-        match pending {
-            Pending::Nothing => false,
-            Pending::Reset => false,
-            Pending::SingleBit { bit: _ } => true,
-            Pending::WriteByte { byte: _ } => true,
-            Pending::ReadByte => false,
-            Pending::Triplet { direction: _ } => false,
-        }
+        matches!(
+            self.pending,
+            Pending::SingleBit { .. } | Pending::WriteByte { .. }
+        )
     }
 
     fn pullup_after(self) -> bool
         ensures { result ≡ pullup_after self }
     {
-        if self.switches_on() {
-            if strong(self.configuration) {
-                true
-            } else {
-                self.pullup
-            }
-        } else {
-            self.pullup
-        }
+        self.pullup || self.switches_on() && strong(self.configuration)
     }
 
     // The command is over: nothing is pending.
-    fn finished(self, status: StatusBits, readout: u8) -> Registers
+    pub fn finished(mut self, status: StatusBits, readout: u8) -> Registers
         ensures { result ≡ finished_with status readout self }
     {
-        let pointer = self.pointer;
-        Registers {
-            status,
-            configuration: self.configuration,
-            pointer,
-            readout,
-            pending: Pending::Nothing,
-            pullup: self.pullup_after(),
-        }
+        self.status = status;
+        self.readout = readout;
+        self.pullup = self.pullup_after();
+        self.pending = Pending::Nothing;
+        self
     }
 }
 
 impl Bridge {
+    #[tactic(auto, unfolding(crate::specs::Bridge::finished_reset))]
     pub(crate) fn finished_reset(self) -> Bridge
         ensures { result ≡ finished_reset self }
     {
         let registers = self.registers;
-        let line = self.line;
         let speed = registers.speed();
         let mut status = registers.status;
-        status.ppd = line.present(speed);
+        status.ppd = self.line.present(speed);
         Bridge {
             registers: registers.finished(status, registers.readout),
-            line: line.reset(speed),
+            line: self.line.reset(speed),
         }
     }
 
+    #[tactic(auto, unfolding(crate::specs::Bridge::finished_bit))]
     pub(crate) fn finished_bit(self, bit: bool) -> Bridge
         ensures { result ≡ finished_bit bit self }
     {
         let registers = self.registers;
-        let line = self.line;
-        let slotted = line.slot(registers.speed(), bit);
+        let slotted = self.line.slot(registers.speed(), bit);
         let mut status = registers.status;
         status.sbr = slotted.level;
-        let after = slotted.line;
         Bridge {
             registers: registers.finished(status, registers.readout),
-            line: after,
+            line: slotted.line,
         }
     }
 
@@ -116,31 +88,27 @@ impl Bridge {
         ensures { result ≡ finished_byte self.registers.pending self }
     {
         let registers = self.registers;
-        let line = self.line;
-        let eight = byte_slots::slots(line, registers.speed(), registers.byte());
-        let status = registers.status;
-        let after = eight.line;
+        let eight = byte_slots::slots(self.line, registers.speed(), registers.byte());
         let readout = registers.read_data(eight.byte);
         Bridge {
-            registers: registers.finished(status, readout),
-            line: after,
+            registers: registers.finished(registers.status, readout),
+            line: eight.line,
         }
     }
 
+    #[tactic(auto, unfolding(crate::specs::Bridge::finished_triplet))]
     pub(crate) fn finished_triplet(self, direction: bool) -> Bridge
         ensures { result ≡ finished_triplet direction self }
     {
         let registers = self.registers;
-        let line = self.line;
-        let three = triplet_slots::triplet(line, registers.speed(), direction);
+        let three = triplet_slots::triplet(self.line, registers.speed(), direction);
         let mut status = registers.status;
         status.dir = three.bit;
         status.tsb = three.second;
         status.sbr = three.first;
-        let after = three.line;
         Bridge {
             registers: registers.finished(status, registers.readout),
-            line: after,
+            line: three.line,
         }
     }
 }

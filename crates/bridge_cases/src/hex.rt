@@ -1,39 +1,48 @@
-// Bytes that are written as pairs of hexadecimal digits. Everything else in the text is passed over.
-ghost use Rattle.std.specs.Prelude.{◌≡◌, ◌≤◌, ◌*◌, length, take};
+// Bytes that are written as pairs of hexadecimal digits: read from a text in which everything else is passed over, and printed.
+ghost use Rattle.std.specs.Prelude.{◌<◌, IfSome};
 
-fn value(c: u8) -> u8 {
+use std::fmt;
+
+// As it is: `to_digit` takes the small letters too, which are acts here.
+fn value(c: u8) -> Option<u8>
+    ensures { IfSome result (λ v. v < 16) }
+{
     match c {
-        b'0'..=b'9' => c - b'0',
-        b'A'..=b'F' => c - b'A' + 10,
-        _ => 255,
+        b'0'..=b'9' => Some(c - b'0'),
+        b'A'..=b'F' => Some(c - b'A' + 10),
+        _ => None,
     }
 }
 
-// The next character, after k digits: a digit goes in as the low half of its byte and moves the other half up.
-fn digit(out: &mut [u8], k: usize, c: u8) -> usize
-    requires { k ≤ 2 * length out.old }
-    ensures { result ≤ 2 * length out.old }
-{
-    let v = value(c);
-    let at = k / 2;
-    if v < 16 {
-        if at < out.len() {
-            out[at] = out[at] % 16 * 16 + v;
-            return k + 1;
+// The text's bytes, as many as there is room for, at the start of the room. A last digit with none behind it is the low half of a byte that
+// is not given back.
+// As it is: what is no digit is passed over, and a last digit alone is stored and not counted, which no method of the library does.
+pub(crate) fn decode<'a>(text: &[u8], room: &'a mut [u8]) -> &'a [u8] {
+    let mut digits = text.iter().filter_map(|c| value(*c));
+    let mut whole = 0;
+    for byte in room.iter_mut() {
+        let Some(high) = digits.next() else {
+            break;
+        };
+        let Some(low) = digits.next() else {
+            *byte = high;
+            break;
+        };
+        *byte = high % 16 * 16 + low % 16;
+        whole += 1;
+    }
+    &room[..whole]
+}
+
+// Bytes with a space before each.
+#[derive(Clone, Copy)]
+pub(crate) struct Spaced<'a>(pub(crate) &'a [u8]);
+
+impl fmt::Display for Spaced<'_> {
+    fn fmt<W: fmt::Write>(&self, f: &mut fmt::Formatter<W>) -> fmt::Result {
+        for byte in self.0 {
+            write!(f, " {byte:02X}")?;
         }
+        Ok(())
     }
-    k
-}
-
-// Puts as many bytes at the start of out as it has room for, and answers how many.
-pub(crate) fn decode(text: &[u8], out: &mut [u8]) -> usize
-    ensures { (result ≤ length out.new) × (result ≡ length (take result out.new)) }
-{
-    let mut k = 0;
-    let mut i = 0;
-    while i < text.len() {
-        k = digit(out, k, text[i]);
-        i += 1;
-    }
-    k / 2
 }

@@ -18,69 +18,38 @@
 
 mod acts;
 mod hex;
-mod say;
 mod show;
 
-ghost use Rattle.std.specs.Prelude.{◌≤◌, length};
-
+use acts::Case;
 use bridge::Bridge;
 use std::io;
-use std::io::Read;
+use std::io::{Cursor, Read};
 
-// Reads until the buffer is full, the input ends or a read fails, and answers how many bytes that is.
-fn read_full(input: &mut impl Read, buf: &mut [u8]) -> usize
-    ensures { result ≤ length buf.new }
-{
-    let mut done = 0;
-    while done < buf.len() {
-        match input.read(&mut buf[done..]) {
-            Ok(n) if 0 < n => done += n,
-            _ => break,
+// The most bytes of the input that are read.
+const MOST: usize = 65536;
+
+fn run<R: Print>(rt: &R, text: &[u8]) -> io::Result<()> {
+    let mut case = Case {
+        rt,
+        bridge: Bridge::power_on(),
+    };
+    for line in text.split(|c| *c == b'\n') {
+        if let [b'-', ..] = line {
+            rt.write_all(line)?;
+            println!(rt; "")?;
+            case.bridge = Bridge::power_on();
+        } else {
+            case.run(line)?;
         }
-    }
-    done
-}
-
-// Where the line that goes on at place i ends.
-fn line_end(text: &[u8], i: usize) -> usize
-    requires { i ≤ length text.now }
-    ensures { (i ≤ result) × (result ≤ length text.now) }
-{
-    let mut j = i;
-    while j < text.len() {
-        if text[j] == b'\n' {
-            return j;
-        }
-        j += 1;
-    }
-    j
-}
-
-fn act_line(rt: &impl Print, bridge: Bridge, line: &[u8]) -> io::Result<Bridge> {
-    if line.len() == 0 {
-        return Ok(bridge);
-    }
-    if line[0] == b'-' {
-        say::text(rt, line)?;
-        say::end(rt)?;
-        return Ok(Bridge::power_on());
-    }
-    acts::run(rt, bridge, line)
-}
-
-fn act_lines(rt: &impl Print, text: &[u8]) -> io::Result<()> {
-    let mut bridge = Bridge::power_on();
-    let mut i = 0;
-    while i < text.len() {
-        let end = line_end(text, i);
-        bridge = act_line(rt, bridge, &text[i..end])?;
-        i = end + 1;
     }
     Ok(())
 }
 
+// Where the input cannot be read any further, what came is what there is.
 fn main(rt: HostRuntime) -> io::Result<()> {
-    let mut text = [0u8; 65536];
-    let n = read_full(&mut rt.stdin(), &mut text);
-    act_lines(&rt, &text[..n])
+    let mut text = Cursor::new([0; MOST]);
+    // As it is: the bench reads so too, but programs share no code, and three lines in a library would be no plainer.
+    let _ = io::copy(&mut rt.stdin().take(MOST as u64), &mut text);
+    let end = text.position().min(MOST as u64) as usize;
+    run(&rt, &text.get_ref()[..end])
 }

@@ -1,111 +1,63 @@
 // The strong pull-up and the probes, as the fields of the bridge have them.
-use crate::say;
 use bridge::Bridge;
-use line::Line;
 use probe::{Condition, OVERDRIVE, Probe, Slot};
-use std::io;
+use std::{fmt, io};
 
-fn slot(rt: &impl Print, s: Slot) -> io::Result<()> {
-    match s {
-        Slot::First => say::text(rt, b", first slot"),
-        Slot::Second => say::text(rt, b", second slot"),
-        Slot::Third => say::text(rt, b", third slot"),
+// A probe's condition.
+#[derive(Clone, Copy)]
+struct Doing(Condition);
+
+impl fmt::Display for Doing {
+    fn fmt<W: fmt::Write>(&self, f: &mut fmt::Formatter<W>) -> fmt::Result {
+        match self.0 {
+            Condition::Deaf => write!(f, "deaf"),
+            Condition::Taking { count, .. } => write!(f, "taking a code, bits so far {count}"),
+            Condition::Sending { bit } => write!(f, "sending bit {bit}"),
+            Condition::Matching { bit, .. } => write!(f, "matching bit {bit}"),
+            Condition::Searching { bit, slot } => {
+                let slot = match slot {
+                    Slot::First => "first",
+                    Slot::Second => "second",
+                    Slot::Third => "third",
+                };
+                write!(f, "searching bit {bit}, {slot} slot")
+            }
+            Condition::Selected => write!(f, "selected"),
+        }
     }
 }
 
-fn condition(rt: &impl Print, c: Condition) -> io::Result<()> {
-    match c {
-        Condition::Deaf => say::text(rt, b"deaf"),
-        Condition::Taking { count, code: _ } => {
-            say::text(rt, b"taking a code, bits so far ")?;
-            say::number(rt, count)
+// A probe, by its family code and the first byte of its serial number.
+#[derive(Clone, Copy)]
+struct Shown(Probe);
+
+impl fmt::Display for Shown {
+    fn fmt<W: fmt::Write>(&self, f: &mut fmt::Formatter<W>) -> fmt::Result {
+        let p = self.0;
+        let [family, serial, ..] = p.id.to_le_bytes();
+        let fast = p.speed == OVERDRIVE;
+        write!(f, "probe {family:02X}{serial:02X}: {}", Doing(p.condition))?;
+        // One at overdrive that goes to standard speed where it differs matches because of 69.
+        if fast && matches!(p.condition, Condition::Matching { fallback: true, .. }) {
+            write!(f, " by 69")?;
         }
-        Condition::Sending { bit } => {
-            say::text(rt, b"sending bit ")?;
-            say::number(rt, bit)
+        if p.marked {
+            write!(f, ", marked")?;
         }
-        Condition::Matching { bit, fallback: _ } => {
-            say::text(rt, b"matching bit ")?;
-            say::number(rt, bit)
+        if fast {
+            write!(f, ", overdrive")?;
         }
-        Condition::Searching { bit, slot: s } => {
-            say::text(rt, b"searching bit ")?;
-            say::number(rt, bit)?;
-            slot(rt, s)
-        }
-        Condition::Selected => say::text(rt, b"selected"),
+        Ok(())
     }
 }
 
-fn fallback(c: Condition) -> bool {
-    match c {
-        Condition::Matching { bit: _, fallback } => fallback,
-        _ => false,
+// The strong pull-up where it is on, since no register has it, and then the fitted probes in their places.
+pub(crate) fn fields(rt: &impl Print, bridge: &Bridge) -> io::Result<()> {
+    if bridge.registers.pullup {
+        println!(rt; "pull-up on")?;
     }
-}
-
-// A probe at overdrive that goes to standard speed where it differs matches because of 69.
-fn by_69(rt: &impl Print, p: Probe) -> io::Result<()> {
-    let c = p.condition;
-    if p.speed == OVERDRIVE {
-        if fallback(c) {
-            say::text(rt, b" by 69")?;
-        }
+    for p in bridge.line.probes.iter().take(bridge.line.count) {
+        println!(rt; "{}", Shown(*p))?;
     }
     Ok(())
-}
-
-fn speed(rt: &impl Print, s: u32) -> io::Result<()> {
-    if s == OVERDRIVE {
-        say::text(rt, b", overdrive")?;
-    }
-    Ok(())
-}
-
-fn at(line: Line, i: usize) -> Probe {
-    line.probes[i % 64]
-}
-
-fn probe(rt: &impl Print, line: Line, i: usize) -> io::Result<()> {
-    if line.count <= i {
-        return Ok(());
-    }
-    let p = at(line, i);
-    say::text(rt, b"probe ")?;
-    say::byte(rt, (p.id % 256) as u8)?;
-    say::byte(rt, (p.id / 256 % 256) as u8)?;
-    say::text(rt, b": ")?;
-    let c = p.condition;
-    condition(rt, c)?;
-    by_69(rt, p)?;
-    if p.marked {
-        say::text(rt, b", marked")?;
-    }
-    speed(rt, p.speed)?;
-    say::end(rt)
-}
-
-// The fitted probes, in their places.
-fn probes(rt: &impl Print, bridge: Bridge) -> io::Result<Bridge> {
-    let line = bridge.line;
-    let mut i: usize = 0;
-    while i < 64 {
-        probe(rt, line, i)?;
-        i += 1;
-    }
-    Ok(bridge)
-}
-
-fn pullup(rt: &impl Print, bridge: Bridge) -> io::Result<()> {
-    let r = bridge.registers;
-    if r.pullup {
-        say::text(rt, b"pull-up on\n")?;
-    }
-    Ok(())
-}
-
-// The strong pull-up where it is on, since no register has it, and then the probes.
-pub(crate) fn fields(rt: &impl Print, bridge: Bridge) -> io::Result<Bridge> {
-    pullup(rt, bridge)?;
-    probes(rt, bridge)
 }

@@ -7,7 +7,7 @@
 use mathlib.Core.Path.{◌≡◌, refl, sym, ap, ap₂, ◌∙◌}
 use mathlib.Core.Bool.{Bool, true, false, cond, false≢true}
 use mathlib.Core.List.{List, [], ◌∷◌, map}
-use Prim.Native.Nat.{ℕ, zero, suc, ◌+◌, ◌-◌, ◌*◌, ◌/◌, ◌%◌, ◌^◌, ◌≤◌}
+use Prim.Native.Nat.{ℕ, zero, suc, ◌+◌, ◌-◌, ◌*◌, ◌/◌, ◌%◌, ◌^◌, ◌<◌, ◌≤◌}
 use native.Mathlib.Omega.{arith}
 use lib.Bits.{bit_and}
 use lib.Dec.{eqb, leb}
@@ -213,3 +213,9 @@ module _ (v : ℕ) where
       ∙ levels_foreseen n (x / 2) (on_fitted (took b) l) (left_foreseen n x l e b)
       ∙ ap (λ (k : ℕ). k % 2 ^ n) (left_levels n x l e b))
       ∙ sym (low_suc n m)
+
+  pub slots_byte : (x : ℕ) (l : Line) → all (foreseen v 8) (fitted l) ≡ true → slots v 8 x l ≡ on_fitted (took_bits 8 (meet 8 x (fitted l))) l
+  slots_byte x l e = slots_foreseen 8 x l e
+
+  pub levels_byte : (x : ℕ) (l : Line) → all (foreseen v 8) (fitted l) ≡ true → meet 8 x (fitted l) < 256 → levels v 8 x l ≡ meet 8 x (fitted l)
+  levels_byte x l e h = levels_foreseen 8 x l e ∙ omega arith

@@ -1,1 +1,2 @@
+pub mod SlotBySlot
 pub mod Foresight

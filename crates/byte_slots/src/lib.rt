@@ -7,23 +7,54 @@
 // Worked example: a line of two probes that send their IDs, the next eight bits of one being 3Fh and of the other F5h, reads as 35h.
 #![tactic(auto)]
 
-ghost use Rattle.std.specs.Prelude.{◌≡◌, ◌+◌, ◌*◌, ◌/◌, ◌%◌, ◌^◌, true, false};
+ghost use Rattle.std.specs.Prelude.{◌≡◌, ℕ, ◌+◌, ◌*◌, ◌/◌, ◌%◌, ◌^◌, Bool, true, IfSome};
 ghost use Rattle.probe.specs.declared.Condition.TheVariants.{Matching};
-ghost use Rattle.probe.specs.Probe.{resumed, rests, in_condition, with_mark, digit};
-ghost use Rattle.line.specs.Line.{all, fitted, on_fitted, levels as levels_of, slots as slots_of};
+ghost use Rattle.probe.specs.Probe.{rests};
+ghost use Rattle.line.specs.Line.{all, fitted, on_fitted, level as level_of, levels as levels_of, slots as slots_of};
 ghost use Rattle.byte_slots.specs.Foresight.{foreseen, ahead, meet, took_bits};
+ghost use Rattle.byte_slots.specs.SlotBySlot.{slots_in, levels_in, line_took};
 
 use line::Line;
 use probe::{Condition, MATCH_ROM, Probe, READ_ROM, RESUME, SEARCH_ROM, SEARCHING, SKIP_ROM};
 
+// What carries slots, with whatever is on it.
+pub trait SlotBySlot: Copy {
+    ghost level_in: { ℕ → Bool → Self → Bool };
+
+    ghost taken_in: { ℕ → Bool → Self → Self };
+
+    // What the wire carries in a slot at this speed in which the bridge writes a bit.
+    fn level(self, speed: u32, write: bool) -> bool
+        ensures { result ≡ level_in speed write self };
+
+    // All that a slot at this speed reaches takes the level.
+    fn taken(self, speed: u32, level: bool) -> Self
+        ensures { result ≡ taken_in speed level self };
+}
+
+impl SlotBySlot for Line {
+    ghost level_in = { level_of };
+
+    ghost taken_in = { line_took };
+
+    fn level(self, speed: u32, write: bool) -> bool {
+        self.level(speed, write)
+    }
+
+    fn taken(self, speed: u32, level: bool) -> Line {
+        self.taken(speed, level)
+    }
+}
+
 // The levels of eight slots, the first in the low bit, and the line after them.
 #[derive(Clone, Copy)]
-pub struct Levels {
+pub struct Levels<L> {
     pub byte: u8,
-    pub line: Line,
+    pub line: L,
 }
 
 // What a probe is in once it has taken Match ROM.
+// As it is: probe's `matching` makes it from the fallback; made public for this one constant it would be no plainer.
 const MATCHING: Condition = Condition::Matching {
     bit: 0,
     fallback: false,
@@ -37,29 +68,17 @@ const LAST_EIGHT: u8 = 56;
 fn foreseen(p: Probe, speed: u32) -> bool
     ensures { result ≡ foreseen speed 8 p }
 {
-    let condition = p.condition;
-    match condition {
-        Condition::Deaf => true,
-        Condition::Taking { count, code: _ } => {
-            if count == 0 { p.reached(speed) } else { false }
-        }
-        Condition::Sending { bit } => {
-            if bit <= LAST_EIGHT {
-                p.reached(speed)
-            } else {
-                false
-            }
-        }
-        Condition::Matching {
-            bit: _,
-            fallback: _,
-        } => p.reached(speed),
-        Condition::Searching { bit: _, slot: _ } => false,
-        Condition::Selected => true,
+    match p.condition {
+        Condition::Deaf | Condition::Selected => true,
+        Condition::Taking { count, .. } => count == 0 && p.reached(speed),
+        Condition::Sending { bit } => bit <= LAST_EIGHT && p.reached(speed),
+        Condition::Matching { .. } => p.reached(speed),
+        Condition::Searching { .. } => false,
     }
 }
 
 // The eight bits of an ID from this one up; those past the last are 0.
+#[tactic(auto, using(crate::proofs::Digits::past_id))]
 fn eight_bits(id: u64, bit: u8) -> u8
     ensures { result ≡ id / 2 ^ bit % 256 }
 {
@@ -75,60 +94,28 @@ fn eight_bits(id: u64, bit: u8) -> u8
 fn ahead(p: Probe) -> u8
     ensures { result ≡ ahead 8 p }
 {
-    let condition = p.condition;
-    match condition {
-        Condition::Deaf => 255,
-        Condition::Taking { count: _, code: _ } => 255,
+    match p.condition {
         Condition::Sending { bit } => eight_bits(p.id, bit),
-        Condition::Matching {
-            bit: _,
-            fallback: _,
-        } => 255,
-        Condition::Searching { bit: _, slot: _ } => 255,
-        Condition::Selected => 255,
-    }
-}
-
-// A probe that begins what a ROM command asks: its mark is cleared.
-fn begun(p: Probe, condition: Condition) -> Probe
-    ensures { result ≡ with_mark p false condition }
-{
-    Probe {
-        id: p.id,
-        marked: false,
-        speed: p.speed,
-        condition,
-    }
-}
-
-// A probe that goes on with it: its mark stays.
-fn gone_on(p: Probe, condition: Condition) -> Probe
-    ensures { result ≡ in_condition p condition }
-{
-    Probe {
-        id: p.id,
-        marked: p.marked,
-        speed: p.speed,
-        condition,
+        _ => 255,
     }
 }
 
 // The probe after eight slots whose levels are the bits of a byte.
+#[tactic(auto, using(crate::proofs::Turns::took_bits_next), unfolding(crate::specs::Foresight::took_bits))]
 fn took_bits(before: Probe, byte: u8) -> Probe
     ensures { result ≡ took_bits 8 byte before }
 {
     let mut p = before;
     let mut rest = byte;
-    let mut left: u8 = 8;
-    while 0 < left {
+    for _i in 0..8u8 {
         p = p.took(rest % 2 == 1);
         rest = rest / 2;
-        left -= 1;
     }
     p
 }
 
 // One that matches its ID goes on by eight bits if all of them agree.
+#[tactic(auto, using(crate::proofs::Whole::matching_byte, crate::proofs::Whole::matched_byte, crate::proofs::Whole::other_byte))]
 fn matched(p: Probe, bit: u8, fallback: bool, byte: u8) -> Probe
     requires { p.condition ≡ Matching bit fallback }
     ensures { result ≡ took_bits 8 byte p }
@@ -140,31 +127,12 @@ fn matched(p: Probe, bit: u8, fallback: bool, byte: u8) -> Probe
         return p.differed(fallback);
     }
     if bit < LAST_EIGHT {
-        gone_on(
-            p,
-            Condition::Matching {
-                bit: bit + 8,
-                fallback,
-            },
-        )
+        p.in_condition(Condition::Matching {
+            bit: bit + 8,
+            fallback,
+        })
     } else {
-        Probe {
-            id: p.id,
-            marked: true,
-            speed: p.speed,
-            condition: Condition::Selected,
-        }
-    }
-}
-
-// What Resume makes of a probe with this mark.
-fn resumed(marked: bool) -> Condition
-    ensures { result ≡ resumed marked }
-{
-    if marked {
-        Condition::Selected
-    } else {
-        Condition::Deaf
+        p.with_mark(true, Condition::Selected)
     }
 }
 
@@ -173,127 +141,93 @@ fn all_rest(line: Line) -> bool
     ensures { result ≡ all rests (fitted line) }
 {
     let n = line.entries();
-    let mut i = 0;
-    while i < n {
-        let p = line.probes[i];
-        if !p.rests() {
-            return false;
-        }
-        i += 1;
-    }
-    true
+    line.probes[..n].iter().all(|p| p.rests())
 }
 
 // What eight slots come to, where that is settled before they begin: every probe is foreseen.
-#[derive(Clone, Copy)]
-struct Prospect {
-    settled: bool,
-    levels: u8,
-}
-
-fn outlook(line: Line, speed: u32, byte: u8) -> Prospect
-    ensures { result.settled ≡ true → (all (foreseen speed 8) (fitted line) ≡ true) × (result.levels ≡ meet 8 byte (fitted line)) }
+#[tactic(auto, using(line::proofs::Front::all_next, crate::proofs::Turns::meet_next), unfolding(line::specs::Line::all, crate::specs::Foresight::meet))]
+fn outlook(line: Line, speed: u32, byte: u8) -> Option<u8>
+    ensures { IfSome result (λ levels. (all (foreseen speed 8) (fitted line) ≡ true) × (levels ≡ meet 8 byte (fitted line))) }
 {
     let n = line.entries();
     let mut levels = byte;
-    let mut i = 0;
-    while i < n {
-        let p = line.probes[i];
-        if !foreseen(p, speed) {
-            return Prospect {
-                settled: false,
-                levels,
-            };
+    for p in &line.probes[..n] {
+        if !foreseen(*p, speed) {
+            return None;
         }
-        levels = levels & ahead(p);
-        i += 1;
+        levels = levels & ahead(*p);
     }
-    Prospect {
-        settled: true,
-        levels,
+    Some(levels)
+}
+
+// A probe takes eight levels that reach it, the bits of a byte. A code of which no bit has come yet is the byte. Each outcome that is met
+// often has an assignment of its own, since one place that stores what several ways have made waits for the memory.
+// As it is: the probe's own condition says which step is taken, and no caller hands one in.
+#[tactic(auto, using(crate::proofs::Whole::resting_byte, crate::proofs::Whole::taking_byte, crate::proofs::Whole::sending_byte, crate::proofs::Whole::sent_byte), unfolding(probe::specs::Probe::obeyed))]
+fn take_byte(p: &mut Probe, byte: u8)
+    ensures { p.new ≡ took_bits 8 byte p.old }
+{
+    match p.condition {
+        Condition::Deaf | Condition::Selected => {}
+        Condition::Taking { count: 0, code: 0 } => match byte {
+            READ_ROM => *p = p.with_mark(false, Condition::Sending { bit: 0 }),
+            MATCH_ROM => *p = p.with_mark(false, MATCHING),
+            SEARCH_ROM => *p = p.with_mark(false, SEARCHING),
+            SKIP_ROM => *p = p.with_mark(false, Condition::Selected),
+            RESUME => *p = p.in_condition(probe::resumed(p.marked)),
+            _ => *p = p.obeyed(byte),
+        },
+        Condition::Sending { bit } if bit < LAST_EIGHT => *p = p.in_condition(Condition::Sending {
+            bit: bit + 8,
+        }),
+        Condition::Sending { bit: LAST_EIGHT } => *p = p.in_condition(Condition::Selected),
+        Condition::Matching { bit, fallback } => *p = matched(*p, bit, fallback, byte),
+        _ => *p = took_bits(*p, byte),
     }
 }
 
-// Every probe takes eight levels that reach it, the bits of a byte. A code of which no bit has come yet is the byte. Each outcome that is
-// met often has an assignment of its own, since one place that stores what several ways have made waits for the memory.
+// As it is: a public function of line that calls a closure for each probe would need a `requires`, which public functions do not have here.
+#[tactic(auto, using(line::proofs::Front::stepped_set, line::proofs::Steps::front_all))]
 fn taken_byte(mut line: Line, byte: u8) -> Line
     ensures { result ≡ on_fitted (took_bits 8 byte) line }
 {
     let n = line.entries();
-    let mut i = 0;
-    while i < n {
-        let at = i;
-        let p = line.probes[at];
-        i += 1;
-        let condition = p.condition;
-        match condition {
-            Condition::Deaf => {}
-            Condition::Taking { count, code: _ } => match count {
-                0 => match byte {
-                    READ_ROM => line.probes[at] = begun(p, Condition::Sending { bit: 0 }),
-                    MATCH_ROM => line.probes[at] = begun(p, MATCHING),
-                    SEARCH_ROM => line.probes[at] = begun(p, SEARCHING),
-                    SKIP_ROM => line.probes[at] = begun(p, Condition::Selected),
-                    RESUME => line.probes[at] = gone_on(p, resumed(p.marked)),
-                    _ => line.probes[at] = p.obeyed(byte),
-                },
-                _ => line.probes[at] = took_bits(p, byte),
-            },
-            Condition::Sending { bit } => {
-                if bit < LAST_EIGHT {
-                    line.probes[at] = gone_on(p, Condition::Sending { bit: bit + 8 });
-                } else if bit == LAST_EIGHT {
-                    line.probes[at] = gone_on(p, Condition::Selected);
-                } else {
-                    line.probes[at] = took_bits(p, byte);
-                }
-            }
-            Condition::Matching { bit, fallback: f } => line.probes[at] = matched(p, bit, f, byte),
-            Condition::Searching { bit: _, slot: _ } => line.probes[at] = took_bits(p, byte),
-            Condition::Selected => {}
-        }
+    let on = &mut line;
+    for p in &mut on.probes[..n] {
+        take_byte(p, byte);
     }
     line
 }
 
-// A level goes in at the top of a byte and moves the earlier ones down, so that after eight the first is bit 0.
-fn with_level(byte: u8, level: bool) -> u8
-    ensures { result ≡ byte / 2 + digit level * 128 }
-{
-    if level { byte / 2 + 128 } else { byte / 2 }
-}
-
-fn slot_by_slot(start: Line, speed: u32, byte: u8) -> Levels
-    ensures { (result.byte ≡ levels_of speed 8 byte start) × (result.line ≡ slots_of speed 8 byte start) }
+// Eight slots at this speed with the bits of a byte, low bit first, one slot after the other.
+pub fn eight<L: SlotBySlot>(start: L, speed: u32, byte: u8) -> Levels<L>
+    ensures { (result.byte ≡ levels_in L.level_in L.taken_in speed 8 byte start) × (result.line ≡ slots_in L.level_in L.taken_in speed 8 byte start) }
 {
     let mut line = start;
     let mut rest = byte;
     let mut levels: u8 = 0;
-    let mut left: u8 = 8;
-    while 0 < left {
+    for _i in 0..8u8 {
         let level = line.level(speed, rest % 2 == 1);
         line = line.taken(speed, level);
-        levels = with_level(levels, level);
+        levels = byte::with_level(levels, level);
         rest = rest / 2;
-        left -= 1;
     }
     Levels { byte: levels, line }
 }
 
 // Eight slots at this speed with the bits of a byte, low bit first.
-pub fn slots(line: Line, speed: u32, byte: u8) -> Levels
+#[tactic(auto, using(crate::proofs::Resting::slots_rest, crate::proofs::Resting::levels_rest, crate::proofs::Foresight::slots_byte, crate::proofs::Foresight::levels_byte, crate::proofs::Turns::slots_line, crate::proofs::Turns::levels_line))]
+pub fn slots(line: Line, speed: u32, byte: u8) -> Levels<Line>
     ensures { (result.byte ≡ levels_of speed 8 byte line) × (result.line ≡ slots_of speed 8 byte line) }
 {
     if all_rest(line) {
         return Levels { byte, line };
     }
-    let ahead = outlook(line, speed, byte);
-    if ahead.settled {
-        Levels {
-            byte: ahead.levels,
-            line: taken_byte(line, ahead.levels),
-        }
-    } else {
-        slot_by_slot(line, speed, byte)
+    let Some(levels) = outlook(line, speed, byte) else {
+        return eight(line, speed, byte);
+    };
+    Levels {
+        byte: levels,
+        line: taken_byte(line, levels),
     }
 }

@@ -1,4 +1,3 @@
-pub mod Xor
 pub mod Shift
 pub mod Table
 pub mod Unique

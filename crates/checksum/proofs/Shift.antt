@@ -6,7 +6,7 @@
 --   shift_odd        a bit that differs from the one that falls out; shift_even, one that does not
 --   Left             the bits of a byte that are still to go in, a 1 above them; left_next, one more has gone in; left_over, all have
 --   crc_from_next     one byte more of a slice; crc_from_done, none left
---   entered_lt, crc_from_lt, crc16_of_lt    a register of w bits stays one
+--   entered_lt, crc_from_lt, crc8_of_lt, crc16_of_lt    a register of w bits stays one
 use mathlib.Core.Path.{◌≡◌, refl, sym, ap, ap₂, ◌∙◌}
 use mathlib.Core.Bool.{Bool, true, false, cond}
 use Prim.Native.Nat.{ℕ, zero, suc, ◌+◌, ◌*◌, ◌/◌, ◌%◌, ◌^◌, ◌<◌, ◌≤◌}
@@ -18,11 +18,17 @@ use lib.ListN.{length, get_or, drop, drop_of_length-le}
 use lib.Seq.{drop-cons}
 use borrow.Author.Tests.{eq-eqb, ne_eqb}
 use lib.Arith.{lt-one}
-use lib.Bits.{bit_xor, xor_lt, xor_zero_r, xor_self, xor_comm, xor_shifted, xor_shr, xor_mod, xor_add_and, shifted_half, shifted_even}
+use lib.Bits.{bit_xor, xor_assoc, xor_lt, xor_zero_r, xor_self, xor_comm, xor_shifted, xor_shr, xor_mod, xor_add_and, shifted_half, shifted_even}
 use lib.Dec.{eqb, lit<}
 use lib.Pow.{pow_pos, split}
-use Rattle.checksum.specs.Register.{shifted, shifts, entered, crc_from, crc16_of, taps, taps16}
-use Rattle.checksum.proofs.Xor.{xor_half, xor_assoc, xor_swap}
+use Rattle.checksum.specs.Register.{shifted, shifts, entered, crc_from, crc8_of, crc16_of, taps, taps8, taps16}
+
+xor_half : (a b : ℕ) → bit_xor a b / 2 ≡ bit_xor (a / 2) (b / 2)
+xor_half a b = xor_shr a b 1
+
+-- the last two of three change places
+xor_swap : (a b c : ℕ) → bit_xor (bit_xor a b) c ≡ bit_xor (bit_xor a c) b
+xor_swap a b c = xor_assoc a b c ∙ ap (bit_xor a) (xor_comm b c) ∙ sym (xor_assoc a c b)
 
 -- what the taps add to a register whose low bit and the bit that goes in sum to f
 abbrev gate : ℕ → ℕ → ℕ
@@ -220,6 +226,10 @@ module _ (w p : ℕ) (tap : p < 2 ^ w) where
   unfolding crc_from
   crc_from_lt r [] h = h
   crc_from_lt r (x ∷ xs) h = crc_from_lt (entered p r x) xs (entered_lt r x h)
+
+pub crc8_of_lt : (s : List ℕ) → crc8_of s < 2 ^ 8
+unfolding crc8_of taps8 taps
+crc8_of_lt s = crc_from_lt 8 taps8 (lit< tt) 0 s (lit< tt)
 
 pub crc16_of_lt : (s : List ℕ) → crc16_of s < 2 ^ 16
 unfolding crc16_of taps16 taps

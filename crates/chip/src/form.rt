@@ -1,43 +1,15 @@
 // The bytes of a packet, one place after the other, and the answer to what they asked.
 ghost use Rattle.std.specs.Prelude.{◌≡◌, ◌++◌, get_or};
-ghost use Rattle.checksum.specs.Register.{taps16, shifted, entered};
 ghost use Rattle.chip.specs.Sensor.{read_from};
 ghost use Rattle.chip.specs.Chip.{next_at, took_code, took_address, took_reads, took_length, took_count};
 ghost use Rattle.chip.specs.Chip.{behind_data, took_data, counted, crc_right, is_addressed, write_status, answer_of, sends_answer, slots_of};
 
 use crate::{Asked, Packet, Place, Sensor};
+use checksum::{TAPS16, entered};
 use packet::{READ, WRITE, WRITE_READ};
-
-// The terms 15, 2 and 0 of the CRC-16 stand that many places below the top bit of the register.
-const TAPS16: u16 = 0xA001;
 
 // A byte that is all ones, which is what a chip sends that sends nothing.
 const ONES: u8 = 255;
-
-// The low bit falls out. Where it differs from the low bit of `bits`, which goes in, the register is flipped at the taps.
-fn shifted16(register: u16, bits: u32) -> u16
-    ensures { result ≡ shifted taps16 register bits }
-{
-    let moved = register >> 1;
-    if (register as u32 ^ bits) % 2 == 1 {
-        moved ^ TAPS16
-    } else {
-        moved
-    }
-}
-
-// A 1 stands above the bits of the byte. When it alone is left, all eight have gone in.
-fn entered16(register: u16, byte: u8) -> u16
-    ensures { result ≡ entered taps16 register byte }
-{
-    let mut after = register;
-    let mut rest = (byte as u32) + 256;
-    while rest != 1 {
-        after = shifted16(after, rest);
-        rest = rest >> 1;
-    }
-    after
-}
 
 // No bit of the byte at a place has come yet.
 pub(crate) fn next_at(place: Place, asked: Asked) -> Packet
@@ -53,11 +25,11 @@ pub(crate) fn next_at(place: Place, asked: Asked) -> Packet
 
 impl Asked {
     // The CRC goes on over a byte.
+    #[tactic(auto, unfolding(checksum::specs::Register::taps16, checksum::specs::Register::taps))]
     pub(crate) fn counted(mut self, x: u8) -> Asked
         ensures { result ≡ counted x self }
     {
-        let crc = entered16(self.crc, x);
-        self.crc = crc;
+        self.crc = entered::<TAPS16>(self.crc, x);
         self
     }
 
@@ -74,6 +46,7 @@ impl Asked {
         }
     }
 
+    #[tactic(auto, unfolding(crate::specs::Chip::took_address))]
     pub(crate) fn took_address(mut self, x: u8) -> Packet
         ensures { result ≡ took_address x self }
     {
@@ -81,6 +54,7 @@ impl Asked {
         next_at(Place::Count, self)
     }
 
+    #[tactic(auto, unfolding(crate::specs::Chip::took_reads))]
     pub(crate) fn took_reads(mut self, x: u8) -> Packet
         ensures { result ≡ took_reads x self }
     {
@@ -91,6 +65,8 @@ impl Asked {
         next_at(Place::Seal, self)
     }
 
+    // As it is: it sets another field than `took_reads` and goes to another place; one for both would take both.
+    #[tactic(auto, unfolding(crate::specs::Chip::took_length))]
     fn took_length(mut self, x: u8) -> Packet
         ensures { result ≡ took_length x self }
     {
@@ -101,6 +77,7 @@ impl Asked {
         next_at(Place::First, self)
     }
 
+    #[tactic(auto, unfolding(crate::specs::Chip::took_count))]
     pub(crate) fn took_count(self, x: u8) -> Packet
         ensures { result ≡ took_count x self }
     {
@@ -122,6 +99,7 @@ impl Asked {
     }
 
     // A data byte, by which the sensor is meant to be another.
+    #[tactic(auto, unfolding(crate::specs::Chip::took_data))]
     pub(crate) fn took_data(mut self, meant: Sensor) -> Packet
         ensures { result ≡ took_data meant self }
     {
@@ -130,7 +108,7 @@ impl Asked {
             self.left = 0;
             next_at(self.behind_data(), self)
         } else {
-            self.left = self.left - 1;
+            self.left -= 1;
             next_at(Place::Later, self)
         }
     }
@@ -139,7 +117,7 @@ impl Asked {
     pub(crate) fn crc_right(self, low: u8, high: u8) -> bool
         ensures { result ≡ crc_right low high self }
     {
-        low as u16 + 256 * high as u16 == 65535 - self.crc
+        u16::from_le_bytes([low, high]) == 65535 - self.crc
     }
 
     // The address byte is that of the chip with this address, its low bit included.
@@ -157,12 +135,12 @@ impl Asked {
     // ---- the answer
 
     // The n-th of the bytes read.
+    #[tactic(auto, using(crate::proofs::Reading::read_at, crate::proofs::Reading::read_behind))]
     fn byte_read(self, n: u16) -> u8
         ensures { result ≡ get_or (read_from self.reads self.meant) n 255 }
     {
-        let meant = self.meant;
         if n < self.reads as u16 {
-            meant.register(n)
+            self.meant.register(n)
         } else {
             ONES
         }
@@ -194,6 +172,7 @@ impl Asked {
     }
 
     // What is sent in a slot of the answer: 1 and 0 in the poll slots, then the bits of the bytes.
+    #[tactic(auto, unfolding(crate::specs::Chip::sends_answer))]
     pub(crate) fn sends(self, status: u8, slot: u16) -> bool
         ensures { result ≡ sends_answer status slot self }
     {

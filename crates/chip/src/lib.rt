@@ -13,11 +13,12 @@ mod registers;
 
 ghost use Rattle.std.specs.Prelude.{◌≡◌};
 ghost use Rattle.chip.specs.Chip.{no_packet, none, new_chip, with_packet, emptied, status_for, sensor_for, whole, took_byte};
-ghost use Rattle.chip.specs.Chip.{with_level, gathered, sends, behind_answer, answered, heard, is_over};
+ghost use Rattle.chip.specs.Chip.{gathered, sends, behind_answer, answered, heard, is_over};
 
 use form::next_at;
 
 // The address that stands for a probe of the old kind: those of chips are below it.
+// As it is: the definitions `none` and `is_chip` name 128, and the line's table holds a chip at each place (fixed memory).
 pub const NO_ADDRESS: u8 = 128;
 
 #[derive(Clone, Copy)]
@@ -51,6 +52,7 @@ pub enum Place {
 
 // What a packet has asked so far: its code and address byte, how many data bytes are still to come and how many are to be read, the CRC of
 // the bytes so far, and what the sensor is meant to be.
+// As it is: `code` is the byte that came, by which the definitions `took_count` and `write_status` tell the form.
 #[derive(Clone, Copy)]
 pub struct Asked {
     pub code: u8,
@@ -81,18 +83,22 @@ pub struct Chip {
 fn no_packet(sensor: Sensor) -> Packet
     ensures { result ≡ no_packet sensor }
 {
-    let asked = Asked {
-        code: 0,
-        address: 0,
-        left: 0,
-        reads: 0,
-        crc: 0,
-        meant: sensor,
-    };
-    next_at(Place::Code, asked)
+    next_at(
+        Place::Code,
+        Asked {
+            code: 0,
+            address: 0,
+            left: 0,
+            reads: 0,
+            crc: 0,
+            meant: sensor,
+        },
+    )
 }
 
 // Bit 0: the CRC is wrong. Bit 1: the address is not acknowledged.
+// As it is: the status is a byte that the chip sends (document 02, R-7), so an enum would be turned into this number at once.
+#[tactic(auto, unfolding(crate::specs::Chip::status_for))]
 fn status_for(right: bool, addressed: bool) -> u8
     ensures { result ≡ status_for right addressed }
 {
@@ -104,22 +110,15 @@ fn status_for(right: bool, addressed: bool) -> u8
 }
 
 // What the sensor is behind a packet that was answered with this status.
+#[tactic(auto, unfolding(crate::specs::Chip::sensor_for))]
 fn sensor_for(status: u8, asked: Asked, before: Sensor) -> Sensor
     ensures { result ≡ sensor_for status asked before }
 {
-    let meant = asked.meant;
     if status == 0 {
-        meant.stepped(asked.reads)
+        asked.meant.stepped(asked.reads)
     } else {
         before
     }
-}
-
-// A level goes in at the top of a byte and moves the earlier ones down.
-fn with_level(byte: u8, level: bool) -> u8
-    ensures { result ≡ with_level level byte }
-{
-    if level { byte / 2 + 128 } else { byte / 2 }
 }
 
 // What comes behind the answer.
@@ -135,6 +134,7 @@ fn behind_answer(status: u8) -> Place
 
 impl Chip {
     // What stands for a probe of the old kind.
+    #[tactic(auto, unfolding(crate::specs::Chip::none, crate::specs::Chip::new_chip))]
     pub fn none() -> Chip
         ensures { result ≡ none }
     {
@@ -142,6 +142,7 @@ impl Chip {
     }
 
     // A chip at fitting: its registers and its pointer are zero.
+    #[tactic(auto, unfolding(crate::specs::Chip::new_chip))]
     pub fn newly_fitted(address: u8) -> Chip
         ensures { result ≡ new_chip address }
     {
@@ -161,49 +162,44 @@ impl Chip {
     }
 
     // The chip after a 1-Wire reset that reaches it.
+    #[tactic(auto, unfolding(crate::specs::Chip::emptied))]
     pub fn emptied(self) -> Chip
         ensures { result ≡ emptied self }
     {
-        let sensor = self.sensor;
-        self.with_packet(no_packet(sensor))
+        self.with_packet(no_packet(self.sensor))
     }
 
     // The last bit of the CRC is taken: the stores and steps are done, and the chip answers from the next slot on.
+    #[tactic(auto, unfolding(crate::specs::Chip::whole))]
     fn whole(self, low: u8, high: u8) -> Chip
         ensures { result ≡ whole low high self }
     {
-        let packet = self.packet;
-        let asked = packet.asked;
-        let sensor = self.sensor;
+        let asked = self.packet.asked;
         let status = status_for(asked.crc_right(low, high), asked.addressed(self.address));
         Chip {
-            address: self.address,
-            sensor: sensor_for(status, asked, sensor),
+            sensor: sensor_for(status, asked, self.sensor),
             packet: next_at(Place::Answering { status, slot: 0 }, asked),
+            ..self
         }
     }
 
     // A byte of the packet is whole.
+    // As it is: the place says which step is taken, and no caller hands one in; so in `heard`.
     #[tactic(auto, unfolding(crate::specs::Chip::took_byte, crate::specs::Chip::took_at))]
     fn took_byte(self, x: u8) -> Chip
         ensures { result ≡ took_byte x self }
     {
-        let packet = self.packet;
-        let asked = packet.asked;
-        let meant = asked.meant;
-        let place = packet.place;
-        match place {
+        let asked = self.packet.asked;
+        match self.packet.place {
             Place::Code => self.with_packet(asked.counted(x).took_code(x)),
             Place::Address => self.with_packet(asked.counted(x).took_address(x)),
             Place::Count => self.with_packet(asked.counted(x).took_count(x)),
-            Place::First => self.with_packet(asked.counted(x).took_data(meant.pointed_to(x))),
-            Place::Later => self.with_packet(asked.counted(x).took_data(meant.stored_one(x))),
+            Place::First => self.with_packet(asked.counted(x).took_data(asked.meant.pointed_to(x))),
+            Place::Later => self.with_packet(asked.counted(x).took_data(asked.meant.stored_one(x))),
             Place::Reads => self.with_packet(asked.counted(x).took_reads(x)),
             Place::Seal => self.with_packet(next_at(Place::SealEnd { low: x }, asked)),
             Place::SealEnd { low } => self.whole(low, x),
-            Place::Answering { status: _, slot: _ } => self,
-            Place::Silent => self,
-            Place::Over => self,
+            Place::Answering { .. } | Place::Silent | Place::Over => self,
         }
     }
 
@@ -213,11 +209,11 @@ impl Chip {
         ensures { result ≡ gathered level self }
     {
         let mut packet = self.packet;
-        let byte = with_level(packet.byte, level);
+        let byte = byte::with_level(packet.byte, level);
         if 7 <= packet.bits {
             return self.took_byte(byte);
         }
-        packet.bits = packet.bits + 1;
+        packet.bits += 1;
         packet.byte = byte;
         self.with_packet(packet)
     }
@@ -227,11 +223,8 @@ impl Chip {
     pub fn sends(self) -> bool
         ensures { result ≡ sends self }
     {
-        let packet = self.packet;
-        let asked = packet.asked;
-        let place = packet.place;
-        match place {
-            Place::Answering { status, slot } => asked.sends(status, slot),
+        match self.packet.place {
+            Place::Answering { status, slot } => self.packet.asked.sends(status, slot),
             _ => true,
         }
     }
@@ -241,8 +234,7 @@ impl Chip {
     fn answered(self, status: u8, slot: u16) -> Chip
         ensures { result ≡ answered status slot self }
     {
-        let packet = self.packet;
-        let asked = packet.asked;
+        let asked = self.packet.asked;
         if slot < asked.slots(status) - 1 {
             let place = Place::Answering {
                 status,
@@ -258,9 +250,7 @@ impl Chip {
     pub fn heard(self, level: bool) -> Chip
         ensures { result ≡ heard level self }
     {
-        let packet = self.packet;
-        let place = packet.place;
-        match place {
+        match self.packet.place {
             Place::Answering { status, slot } => self.answered(status, slot),
             Place::Silent | Place::Over => self,
             _ => self.gathered(level),
@@ -272,11 +262,6 @@ impl Chip {
     pub fn over(self) -> bool
         ensures { result ≡ is_over self }
     {
-        let packet = self.packet;
-        let place = packet.place;
-        match place {
-            Place::Over => true,
-            _ => false,
-        }
+        matches!(self.packet.place, Place::Over)
     }
 }

@@ -5,6 +5,7 @@ ghost use Rattle.chip.specs.Sensor.{zeroed, pointed_to, stored_one, stepped};
 use crate::Sensor;
 
 impl Sensor {
+    #[tactic(auto, unfolding(crate::specs::Sensor::zeroed))]
     pub(crate) fn zeroed() -> Sensor
         ensures { result ≡ zeroed }
     {
@@ -23,6 +24,7 @@ impl Sensor {
     }
 
     // A later byte is stored, and the pointer steps.
+    #[tactic(auto, unfolding(crate::specs::Sensor::stored_one))]
     pub(crate) fn stored_one(mut self, x: u8) -> Sensor
         ensures { result ≡ stored_one x self }
     {
@@ -33,6 +35,7 @@ impl Sensor {
     }
 
     // So many bytes have been read.
+    #[tactic(auto, unfolding(crate::specs::Sensor::stepped))]
     pub(crate) fn stepped(mut self, n: u8) -> Sensor
         ensures { result ≡ stepped n self }
     {

@@ -17,6 +17,7 @@ use native.Mathlib.Omega.{arith}
 use lib.Dec.{leb}
 use lib.ListN.{length, get_or, take, drop}
 use lib.Seq.{take_at}
+use Rattle.std.specs.Prelude.{Result, Ok, Err}
 use Rattle.identity.specs.Identity.{number_of}
 use Rattle.probe.specs.Probe.{digit}
 use Rattle.line.specs.Line.{fit_number}
@@ -25,9 +26,11 @@ use Rattle.bridge.specs.declared.Bridge.{Bridge}
 use Rattle.bridge.specs.Bridge.{after_fitting, after_withdrawal}
 use Rattle.bridge.specs.Reached.{Bytes, Reached}
 use Rattle.bridge.specs.Reached.Reached.{fit, withdraw}
-use Rattle.search.specs.declared.Answer.{Answer}
-use Rattle.search.specs.declared.Answer.TheVariants.{Listed}
-use Rattle.search.specs.Search.{answer_of, answer_number, answer_values, bytes_from, list_of, buffer_of, bridge_of}
+use Rattle.search.specs.Search.Answer.{Listed}
+use Rattle.search.specs.declared.Refusal.{Refusal}
+use Rattle.search.specs.declared.Refusal.TheVariants.{Short}
+use Rattle.search.specs.declared.Searched.{Searched}
+use Rattle.search.specs.Search.{Answer, answer_in, bridge_in, told, answer_of, answer_number, answer_values, bytes_from, list_of, buffer_of, bridge_of}
 use Rattle.search.proofs.search.Reads as search-fn
 use Rattle.search.proofs.Bytes.{length_list_of, length_bytes_from, list_of_append}
 use Rattle.search.proofs.Call.{short, done}
@@ -252,16 +255,25 @@ lent d = record { ref_ptr = (0, 0); ghost_name = 0; now = d }
 
 pub promised_some : (s : Bridge) (b : ℕ) (d : List ℕ) → Promised s b d (outcome s b d)
 unfolding lent
-promised_some s b d =
-    record {
-      lifetimes = ([], tt);
-      arguments = (s, (b, (lent d, tt)));
-      result = record { answer = answer_of b d s; bridge = bridge_of b d s };
-      exit = (s, (b, (lent (buffer_of b d s), tt)));
-      promise = (refl, (refl, refl));
-      goes_in = refl;
-      comes_back = refl;
-    }
+promised_some s b d = go (dec_le (8 * min b 64) (length d))
+  where
+    by : (r : Result Searched Refusal) → answer_in r ≡ answer_of b d s → bridge_in s r ≡ bridge_of b d s → Promised s b d (outcome s b d)
+    by r p q =
+        record {
+          lifetimes = ([], tt);
+          arguments = (s, (b, (lent d, tt)));
+          result = r;
+          exit = (s, (b, (lent (buffer_of b d s), tt)));
+          promise = (p, (q, refl));
+          goes_in = refl;
+          comes_back = outcome_path p q refl;
+        }
+
+    go : Dec (8 * min b 64 ≤ length d) → Promised s b d (outcome s b d)
+    go (yes h) =
+        let w = done b d s h in by (Ok (told (search b s))) (sym w.answer) (sym w.state)
+    go (no h) =
+        let w = short b d s (omega arith) in by (Err Short) (sym w.answer) (sym w.state)
 
 -- it asks for nothing
 pub promised_always : (κ : _) (a : _) → search-fn.Pre κ a

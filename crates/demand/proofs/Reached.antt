@@ -20,6 +20,7 @@ use borrow.Author.Tests.{eq-eqb, eqb-true, leb-false}
 use lib.Dec.{eqb, leb, lit<}
 use lib.ListN.{length, drop, set, replicate, length-append, length-map, length-drop, length-replicate}
 use lib.Seq.{set-append_seam, append_snoc, drop-append_seam, drop-drop}
+use Rattle.std.specs.Prelude.{Option, None, Some}
 use Rattle.identity.specs.Identity.{number_of, refusal_of}
 use Rattle.probe.specs.declared.Probe.{Probe}
 use Rattle.probe.specs.Probe.{deaf_new}
@@ -31,8 +32,6 @@ use Rattle.bridge.specs.Bridge.{power_on, after_fitting, after_withdrawal, comma
 use Rattle.bridge.proofs.Reach.{reached_command}
 use Rattle.bridge.specs.Reached.{Bytes, Reached}
 use Rattle.bridge.specs.Reached.Reached.{on, write, wait, fit, withdraw}
-use Rattle.pass.specs.declared.Conflict.{Conflict}
-use Rattle.pass.specs.declared.Conflict.TheVariants.{Nowhere, At}
 use Rattle.pass.specs.declared.Walk.{Walk}
 use Rattle.pass.specs.Pass.{direction, triplet_byte, took_triplet, tripled, walked, begun, passed}
 use Rattle.pass.specs.Passes.{Result, absent, continued, searched, search}
@@ -313,16 +312,16 @@ reached_triplet : (d : Bool) {b : Bridge} → Reached b → Reached (command (0x
 reached_triplet true r = reached_command (0x78 ∷ 128 ∷ []) (bytes_two 0x78 128 (lit< tt) (lit< tt)) r
 reached_triplet false r = reached_command (0x78 ∷ 0 ∷ []) (bytes_two 0x78 0 (lit< tt) (lit< tt)) r
 
-reached_walked : (n k i : ℕ) (c : Conflict) (w : Walk) → Reached w.bridge → Reached (walked n k i c w).bridge
+reached_walked : (n k i : ℕ) (c : Option ℕ) (w : Walk) → Reached w.bridge → Reached (walked n k i c w).bridge
 unfolding walked tripled took_triplet
 reached_walked zero k i c w r = r
 reached_walked (suc n) k i c w r = reached_walked n (suc k) i c (tripled i c k w) (reached_triplet (direction i c k) r)
 
-reached_passed : (i : ℕ) (c : Conflict) {b : Bridge} → Reached b → Reached (passed i c b).bridge
+reached_passed : (i : ℕ) (c : Option ℕ) {b : Bridge} → Reached b → Reached (passed i c b).bridge
 unfolding passed
 reached_passed i c {b} r = reached_walked 64 0 i c (begun (command (0xA5 ∷ 0xF0 ∷ []) b)) (reached_byte 0xF0 (lit< tt) r)
 
-reached_searched : (m i : ℕ) (c : Conflict) (b : Bridge) → Reached b → Reached (searched m i c b).bridge
+reached_searched : (m i : ℕ) (c : Option ℕ) (b : Bridge) → Reached b → Reached (searched m i c b).bridge
 unfolding searched continued
 reached_searched zero i c b r = r
 reached_searched (suc m) i c b r =
@@ -338,13 +337,13 @@ reached_searched (suc m) i c b r =
     end : Reached w.bridge
     end = reached_passed i c (reached_reset r)
 
-    go : (t : Bool) (q : Conflict) (rest : Result) → Reached rest.bridge → Reached (cond t (continued q w rest) (absent reset)).bridge
-    go true Nowhere rest f = end
-    go true (At k) rest f = f
+    go : (t : Bool) (q : Option ℕ) (rest : Result) → Reached rest.bridge → Reached (cond t (continued q w rest) (absent reset)).bridge
+    go true None rest f = end
+    go true (Some k) rest f = f
     go false q rest f = reached_reset r
 
 pub reached_search : (m : ℕ) {b : Bridge} → Reached b → Reached (search m b).bridge
 unfolding search
 reached_search zero r = r
 reached_search (suc m) {b} r =
-    reached_searched (suc m) 0 Nowhere (command (0xF0 ∷ []) b) (reached_command (0xF0 ∷ []) (bytes_one 0xF0 (lit< tt)) r)
+    reached_searched (suc m) 0 None (command (0xF0 ∷ []) b) (reached_command (0xF0 ∷ []) (bytes_one 0xF0 (lit< tt)) r)

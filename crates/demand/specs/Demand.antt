@@ -22,8 +22,7 @@ use Rattle.withdrawal.specs.Withdrawal.{withdraw_number}
 use Rattle.bridge.specs.declared.Bridge.{Bridge}
 use Rattle.bridge.specs.Bridge.{write_number, command, after_fitting, after_withdrawal}
 use Rattle.bridge.specs.Reached.{Bytes, Reached}
-use Rattle.search.specs.declared.Answer.{Answer}
-use Rattle.search.specs.Search.{answer_number, answer_values, list_of}
+use Rattle.search.specs.Search.{Answer, answer_number, answer_values, list_of}
 use Rattle.enumeration.specs.Order.{Among, InOrder}
 
 pub record Outcome : Type 0 where

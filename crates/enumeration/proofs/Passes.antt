@@ -7,15 +7,16 @@
 use mathlib.Core.Path.{◌≡◌, refl, sym, ap, ap₂, subst, ◌∙◌}
 use mathlib.Core.Bool.{Bool, true, false, cond, true≢false}
 use mathlib.Core.List.{List, [], ◌∷◌, ◌++◌, append-nil}
-use mathlib.Core.Option.{none, some}
 use Prim.Native.Nat.{ℕ, zero, suc, ◌+◌, ◌%◌, ◌^◌, ◌<◌, ◌≤◌}
 use native.Mathlib.Nat.{le_refl, mod-eq_of_lt}
 use native.Mathlib.Omega.{arith}
 use borrow.Author.Tests.{lt-ltb, le-ltb, eq-eqb, ne_eqb}
 use lib.Dec.{eqb}
 use lib.ListN.{length}
+use Rattle.std.specs.Prelude.{None, Some}
+use Rattle.std.specs.Option.{option_or}
 use Rattle.identity.specs.Identity.{bit_of}
-use Rattle.enumeration.proofs.Tree.{child, leaves, branch, conflict_at, ending, deeper, last, after, Sequences}
+use Rattle.enumeration.proofs.Tree.{child, leaves, branch, conflict_at, ending, last, after, Sequences}
 use Rattle.enumeration.proofs.Tree.Sequences.{ends, goes}
 use Rattle.enumeration.proofs.Bits.{child_lt, bit_child, mod_child}
 
@@ -48,9 +49,9 @@ module _ (h : ℕ → ℕ → Bool) where
     unfolding ending
     ending_next = ap (λ (v : Bool). ending h d n (suc k) (child v k a)) t
 
-    last_next : last h d (suc n) k a ≡ deeper (last h d n (suc k) (child w k a)) (conflict_at h d k a)
+    last_next : last h d (suc n) k a ≡ option_or (last h d n (suc k) (child w k a)) (conflict_at h d k a)
     unfolding last
-    last_next = ap (λ (v : Bool). deeper (last h d n (suc k) (child v k a)) (conflict_at h d k a)) t
+    last_next = ap (λ (v : Bool). option_or (last h d n (suc k) (child v k a)) (conflict_at h d k a)) t
 
   -- the ID at which a pass from a child ends has that child's bit
   ending_bit : (w : Bool) (n k a : ℕ) (d : ℕ → Bool) (x : ℕ) → a < 2 ^ k → ending h d n (suc k) (child w k a) ≡ x → bit_of x k ≡ w
@@ -61,14 +62,13 @@ module _ (h : ℕ → ℕ → Bool) where
   -- ---- a branch that every pass concerned takes, with no conflict
 
   abbrev Taken : Bool → ℕ → ℕ → (ℕ → Bool) → Type 0
-  Taken w k a d = (branch h d k a ≡ w) × (conflict_at h d k a ≡ none)
+  Taken w k a d = (branch h d k a ≡ w) × (conflict_at h d k a ≡ None)
 
   lift : (w : Bool) (n k a : ℕ) → a < 2 ^ k → ((e : ℕ → Bool) → e k ≡ w → Taken w k a e) → {d : ℕ → Bool} {l : List ℕ} → Taken w k a d → Sequences h n (suc k) (child w k a) d l → Sequences h (suc n) k a d l
-  unfolding deeper
   lift w n k a lt every {d} t (ends e q) =
-      ends (ending_next w n k a d t.0 ∙ e) (last_next w n k a d t.0 ∙ ap₂ deeper q t.1)
+      ends (ending_next w n k a d t.0 ∙ e) (last_next w n k a d t.0 ∙ ap₂ option_or q t.1)
   lift w n k a lt every {d} t (goes {x = x} c e q le rest) =
-      goes c (ending_next w n k a d t.0 ∙ e) (last_next w n k a d t.0 ∙ ap₂ deeper q t.1) (omega arith)
+      goes c (ending_next w n k a d t.0 ∙ e) (last_next w n k a d t.0 ∙ ap₂ option_or q t.1) (omega arith)
       (λ f fol.
       lift w n k a lt every
       (every f (fol k (le_refl k) ∙ after_below x c k le ∙ ending_bit w n k a d x lt e))
@@ -76,15 +76,14 @@ module _ (h : ℕ → ℕ → Bool) where
 
   -- ---- both branches there
 
-  glue : (n k a : ℕ) → a < 2 ^ k → ((e : ℕ → Bool) → e k ≡ false → (branch h e k a ≡ false) × (conflict_at h e k a ≡ some k)) → {d : ℕ → Bool} {l r : List ℕ} → d k ≡ false → Sequences h n (suc k) (child false k a) d l → ((e : ℕ → Bool) → e k ≡ true → ((j : ℕ) → k < j → e j ≡ false) → Sequences h (suc n) k a e r) → Sequences h (suc n) k a d (l ++ r)
-  unfolding deeper
+  glue : (n k a : ℕ) → a < 2 ^ k → ((e : ℕ → Bool) → e k ≡ false → (branch h e k a ≡ false) × (conflict_at h e k a ≡ Some k)) → {d : ℕ → Bool} {l r : List ℕ} → d k ≡ false → Sequences h n (suc k) (child false k a) d l → ((e : ℕ → Bool) → e k ≡ true → ((j : ℕ) → k < j → e j ≡ false) → Sequences h (suc n) k a e r) → Sequences h (suc n) k a d (l ++ r)
   glue n k a lt both {d} z (ends {x = x} e q) right =
       goes k (ending_next false n k a d (both d z).0 ∙ e)
-      (last_next false n k a d (both d z).0 ∙ ap₂ deeper q (both d z).1) (le_refl k)
+      (last_next false n k a d (both d z).0 ∙ ap₂ option_or q (both d z).1) (le_refl k)
       (λ f fol. right f (fol k (le_refl k) ∙ after_at x k) (λ j kj. fol j (omega arith) ∙ after_above x k j kj))
   glue n k a lt both {d} z (goes {x = x} c e q le rest) right =
       goes c (ending_next false n k a d (both d z).0 ∙ e)
-      (last_next false n k a d (both d z).0 ∙ ap₂ deeper q (both d z).1) (omega arith)
+      (last_next false n k a d (both d z).0 ∙ ap₂ option_or q (both d z).1) (omega arith)
       (λ f fol.
       glue n k a lt both (fol k (le_refl k) ∙ after_below x c k le ∙ ending_bit false n k a d x lt e)
       (rest f (λ j kj. fol j (omega arith))) right)
@@ -92,7 +91,7 @@ module _ (h : ℕ → ℕ → Bool) where
   -- ---- what is there decides
 
   module _ (k a : ℕ) (x y : Bool) (ex : h (suc k) (child false k a) ≡ x) (ey : h (suc k) (child true k a) ≡ y) (d : ℕ → Bool) (v : Bool) (dv : d k ≡ v) where
-    at_node : (branch h d k a ≡ cond x (cond y v false) true) × (conflict_at h d k a ≡ cond x (cond y (cond v none (some k)) none) none)
+    at_node : (branch h d k a ≡ cond x (cond y v false) true) × (conflict_at h d k a ≡ cond x (cond y (cond v None (Some k)) None) None)
     unfolding branch conflict_at
     at_node = (simp (ex, ey, dv), simp (ex, ey, dv))
 

@@ -14,9 +14,10 @@
 use Prim.Native.Nat.{ℕ, zero, suc, ◌+◌, ◌%◌, ◌^◌, ◌≤◌}
 use mathlib.Core.Bool.{Bool, true, false, cond}
 use mathlib.Core.List.{List, [], ◌∷◌, ◌++◌}
-use mathlib.Core.Option.{Option, none, some}
 use mathlib.Core.Path.{◌≡◌}
 use lib.Dec.{eqb, ltb}
+use Rattle.std.specs.Prelude.{Option, None, Some}
+use Rattle.std.specs.Option.{option_or}
 use Rattle.identity.specs.Identity.{bit_of}
 
 unfoldable pub begins : ℕ → ℕ → ℕ → Bool
@@ -43,20 +44,16 @@ branch h d k a = cond (h (suc k) (child false k a)) (cond (h (suc k) (child true
 -- A conflict where 0 was taken.
 unfoldable pub conflict_at : (ℕ → ℕ → Bool) → (ℕ → Bool) → ℕ → ℕ → Option ℕ
 conflict_at h d k a =
-    cond (h (suc k) (child false k a)) (cond (h (suc k) (child true k a)) (cond (d k) none (some k)) none) none
+    cond (h (suc k) (child false k a)) (cond (h (suc k) (child true k a)) (cond (d k) None (Some k)) None) None
 
 unfoldable pub ending : (ℕ → ℕ → Bool) → (ℕ → Bool) → ℕ → ℕ → ℕ → ℕ
 ending h d zero k a = a
 ending h d (suc n) k a = ending h d n (suc k) (child (branch h d k a) k a)
 
 -- the deeper of two conflicts, where there is one
-unfoldable pub deeper : Option ℕ → Option ℕ → Option ℕ
-deeper none c = c
-deeper (some x) c = some x
-
 unfoldable pub last : (ℕ → ℕ → Bool) → (ℕ → Bool) → ℕ → ℕ → ℕ → Option ℕ
-last h d zero k a = none
-last h d (suc n) k a = deeper (last h d n (suc k) (child (branch h d k a) k a)) (conflict_at h d k a)
+last h d zero k a = None
+last h d (suc n) k a = option_or (last h d n (suc k) (child (branch h d k a) k a)) (conflict_at h d k a)
 
 unfoldable pub after : ℕ → ℕ → ℕ → Bool
 after x c k = cond (ltb k c) (bit_of x k) (eqb k c)
@@ -66,5 +63,5 @@ abbrev pub Follows : ℕ → ℕ → ℕ → (ℕ → Bool) → Type 0
 Follows k x c e = (j : ℕ) → k ≤ j → e j ≡ after x c j
 
 pub data Sequences (h : ℕ → ℕ → Bool) (n k a : ℕ) : (ℕ → Bool) → List ℕ → Type 0 where
-  ends : {d : ℕ → Bool} {x : ℕ} → ending h d n k a ≡ x → last h d n k a ≡ none → Sequences h n k a d (x ∷ [])
-  goes : {d : ℕ → Bool} {x : ℕ} {l : List ℕ} (c : ℕ) → ending h d n k a ≡ x → last h d n k a ≡ some c → k ≤ c → ((e : ℕ → Bool) → Follows k x c e → Sequences h n k a e l) → Sequences h n k a d (x ∷ l)
+  ends : {d : ℕ → Bool} {x : ℕ} → ending h d n k a ≡ x → last h d n k a ≡ None → Sequences h n k a d (x ∷ [])
+  goes : {d : ℕ → Bool} {x : ℕ} {l : List ℕ} (c : ℕ) → ending h d n k a ≡ x → last h d n k a ≡ Some c → k ≤ c → ((e : ℕ → Bool) → Follows k x c e → Sequences h n k a e l) → Sequences h n k a d (x ∷ l)

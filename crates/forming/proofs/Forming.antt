@@ -1,21 +1,17 @@
 -- Forming, put together from its steps: the buffer after each step is the packet's first bytes over what was there.
 --   length_write, length_read, length_write_read    how long a packet is
---   number_write, number_read, number_write_read    the number as the code works it out
---   kept, laid          the two outcomes of a call
+--   outside, short, laid    the outcomes of a call: refused for its limits or its buffer, or the packet laid
 --   sealed              the checksum completes the packet
 --   write_laid, read_laid, write_read_laid    the steps of each form
---   write_within, read_within, write_read_within    the limits of an accepted request, and room for its packet
-use mathlib.Core.Path.{◌≡◌, refl, sym, ap, subst, ◌∙◌}
-use mathlib.Core.Bool.{Bool, cond, ◌&&◌, and-eq-true_iff}
-use mathlib.Core.List.{List, [], ◌∷◌, ◌++◌}
-use Prim.Native.Nat.{ℕ, ◌+◌, ◌*◌, ◌≤◌}
-use native.Mathlib.Omega.{arith}
-use borrow.Author.Tests.{eq-eqb, ne_eqb}
-use lib.ListN.{length, take, set, length-append}
+use Rattle.std.proofs.Common.{◌≡◌, refl, sym, ap, ap₂, subst, ◌∙◌, Bool, true, false, cond, List, [], ◌∷◌, ◌++◌, ℕ, ◌+◌, ◌*◌, ◌<◌, ◌≤◌, arith, length, take, length-append, Result, Ok, Err}
+use Rattle.std.specs.Result.{IsErrAnd}
+use borrow.Author.Tests.{eq-eqb, ne_eqb, lt-leb, le-leb}
+use lib.ListN.{set}
+use Rattle.forming.specs.declared.Refusal.{Refusal}
+use Rattle.forming.specs.declared.Refusal.TheVariants.{Limits, Buffer}
 use Rattle.forming.specs.Buffer.{over, placed}
 use Rattle.packet.specs.Request.{Request, write, read, write_read, body_of, seal_of, packet_of}
-use Rattle.forming.specs.Forming.{good_address, good_count, in_limits, number_for, form_number, formed}
-use Rattle.forming.proofs.Limits.{good_of, room_of, address_of_lem, count_of}
+use Rattle.forming.specs.Forming.{number_of, number_in, in_limits, number_for, form_number, formed}
 use Rattle.forming.proofs.Buffer.{over_placed, take_over, placed_one, length_over}
 
 -- ---- lengths
@@ -42,34 +38,36 @@ length_read a r = refl
 pub length_write_read : (a : ℕ) (s : List ℕ) (r : ℕ) → length (packet_of (write_read a s r)) ≡ length s + 6
 length_write_read a s r = omega (arith, length_packet (write_read a s r), length_bodies a s r)
 
--- ---- numbers
+-- ---- the outcomes of a call: the number, and the buffer afterwards
 
-pub number_write : (a : ℕ) (s d : List ℕ) → number_for (good_address a && good_count (length s)) (length s + 5) (length d) ≡ form_number (write a s) d
-unfolding form_number in_limits
-number_write a s d =
-    ap (λ (w : ℕ). number_for (good_address a && good_count (length s)) w (length d)) (sym (length_write a s))
-
-pub number_read : (a r : ℕ) (d : List ℕ) → number_for (good_address a && good_count r) 5 (length d) ≡ form_number (read a r) d
-unfolding form_number in_limits
-number_read a r d = ap (λ (w : ℕ). number_for (good_address a && good_count r) w (length d)) (sym (length_read a r))
-
-pub number_write_read : (a : ℕ) (s : List ℕ) (r : ℕ) (d : List ℕ) → number_for (good_address a && good_count (length s) && good_count r) (length s + 6) (length d) ≡ form_number (write_read a s r) d
-unfolding form_number in_limits
-number_write_read a s r d =
-    ap (λ (w : ℕ). number_for (good_address a && good_count (length s) && good_count r) w (length d))
-    (sym (length_write_read a s r))
-
--- ---- the two outcomes
-
-pub kept : (q : Request) (d : List ℕ) (n : ℕ) → n ≡ form_number q d → (n ≡ 0 → ⊥) → (n ≡ form_number q d) × (d ≡ formed q d)
+refused : (q : Request) (d : List ℕ) (n : ℕ) → n ≡ form_number q d → (n ≡ 0 → ⊥) → (n ≡ form_number q d) × (d ≡ formed q d)
 unfolding formed
-kept q d n e h =
+refused q d n e h =
     (e, sym (ap (λ (t : Bool). cond t (over (packet_of q) d) d) (ne_eqb (form_number q d) 0 (λ z. h (e ∙ z)))))
 
-pub laid : (q : Request) (d e : List ℕ) → form_number q d ≡ 0 → e ≡ over (packet_of q) d → (0 ≡ form_number q d) × (e ≡ formed q d)
-unfolding formed
-laid q d e z h =
-    (sym z, h ∙ sym (ap (λ (t : Bool). cond t (over (packet_of q) d) d) (eq-eqb (form_number q d) 0 z)))
+pub outside : (q : Request) (d : List ℕ) (r : Result Unit Refusal) (why : Refusal) → IsErrAnd r (λ x. x ≡ why) → why ≡ Limits → in_limits q ≡ false → (number_in r ≡ form_number q d) × (d ≡ formed q d)
+unfolding form_number
+outside q d (Ok x) why h e f = elim h [ ]
+outside q d (Err x) why h e f =
+    refused q d (number_of x)
+    (ap number_of (h ∙ e) ∙ sym (ap (λ (t : Bool). number_for t (length (packet_of q)) (length d)) f))
+    (λ z. absurd (omega (arith, sym (ap number_of (h ∙ e)) ∙ z)))
+
+pub short : (q : Request) (d : List ℕ) (r : Result Unit Refusal) (why : Refusal) → IsErrAnd r (λ x. x ≡ why) → why ≡ Buffer → in_limits q ≡ true → length d < length (packet_of q) → (number_in r ≡ form_number q d) × (d ≡ formed q d)
+unfolding form_number
+short q d (Ok x) why h e f room = elim h [ ]
+short q d (Err x) why h e f room =
+    refused q d (number_of x)
+    (ap number_of (h ∙ e)
+    ∙ sym (ap₂ (λ (t u : Bool). cond t (cond u 0 12) 11) f (lt-leb (length (packet_of q)) (length d) room)))
+    (λ z. absurd (omega (arith, sym (ap number_of (h ∙ e)) ∙ z)))
+
+pub laid : (q : Request) (d e : List ℕ) → in_limits q ≡ true → length (packet_of q) ≤ length d → e ≡ over (packet_of q) d → (0 ≡ form_number q d) × (e ≡ formed q d)
+unfolding form_number formed
+laid q d e f room h = (sym done, h ∙ sym (ap (λ (t : Bool). cond t (over (packet_of q) d) d) (eq-eqb (form_number q d) 0 done)))
+  where
+    done : form_number q d ≡ 0
+    done = ap₂ (λ (t u : Bool). cond t (cond u 0 12) 11) f (le-leb (length (packet_of q)) (length d) room)
 
 -- ---- the steps
 
@@ -105,35 +103,3 @@ write_read_laid a s r d b₁ b₂ e f room =
     = ap (λ (x : List ℕ). set x (length s + 3) r) front ∙ ap (λ (k : ℕ). set (over h d) k r) (sym at)
     ∙ placed_one (length h) r (over h d) (omega arith) ∙ over_placed h (r ∷ []) d in
     sealed_on (write_read a s r) d (set b₂ (length s + 3) r) (length s + 4) (length_bodies a s r) stored
-
--- ---- what an accepted request shows
-
-pub write_within : (a : ℕ) (s d : List ℕ) → form_number (write a s) d ≡ 0 → (a ≤ 127) × (length s ≤ 255) × (length s + 5 ≤ length d)
-write_within a s d z =
-    let e : number_for (good_address a && good_count (length s)) (length s + 5) (length d) ≡ 0 = number_write a s d ∙ z in
-    let g = good_of (good_address a && good_count (length s)) (length s + 5) (length d) e in (
-      address_of_lem a (good_count (length s)) g,
-      (count_of (length s) ((and-eq-true_iff (good_address a) (good_count (length s))).0 g).1).1,
-      room_of (good_address a && good_count (length s)) (length s + 5) (length d) e,
-    )
-
-pub read_within : (a r : ℕ) (d : List ℕ) → form_number (read a r) d ≡ 0 → (a ≤ 127) × (r ≤ 255) × (5 ≤ length d)
-read_within a r d z =
-    let e : number_for (good_address a && good_count r) 5 (length d) ≡ 0 = number_read a r d ∙ z in
-    let g = good_of (good_address a && good_count r) 5 (length d) e in (
-      address_of_lem a (good_count r) g,
-      (count_of r ((and-eq-true_iff (good_address a) (good_count r)).0 g).1).1,
-      room_of (good_address a && good_count r) 5 (length d) e,
-    )
-
-pub write_read_within : (a : ℕ) (s : List ℕ) (r : ℕ) (d : List ℕ) → form_number (write_read a s r) d ≡ 0 → (a ≤ 127) × (length s ≤ 255) × (r ≤ 255) × (length s + 6 ≤ length d)
-write_read_within a s r d z =
-    let t : Bool = good_address a && good_count (length s) in
-    let e : number_for (t && good_count r) (length s + 6) (length d) ≡ 0 = number_write_read a s r d ∙ z in
-    let g = good_of (t && good_count r) (length s + 6) (length d) e in
-    let f = ((and-eq-true_iff t (good_count r)).0 g).0 in (
-      address_of_lem a (good_count (length s)) f,
-      (count_of (length s) ((and-eq-true_iff (good_address a) (good_count (length s))).0 f).1).1,
-      (count_of r ((and-eq-true_iff t (good_count r)).0 g).1).1,
-      room_of (t && good_count r) (length s + 6) (length d) e,
-    )

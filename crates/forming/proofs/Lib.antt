@@ -1,4 +1,5 @@
 pub mod Buffer
 pub mod Limits
 pub mod Forming
+pub mod Refusals
 pub mod Unique

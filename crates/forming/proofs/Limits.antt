@@ -1,5 +1,4 @@
--- Tests made one after the other, and what an accepted request shows.
---   and_then, and_not      a test that is made second
+-- What an accepted request shows.
 --   limits_first           a request outside its limits is refused with 11, whatever the buffer
 --   good_of, room_of       the number is 0 only where the request is within its limits and the packet fits
 --   address_of_lem, count_of   the limits as orders
@@ -10,12 +9,6 @@ use borrow.Author.Tests.{leb-true}
 use native.Mathlib.Omega.{arith}
 use lib.Dec.{leb}
 use Rattle.forming.specs.Forming.{number_for, good_address, good_count}
-
-pub and_then : (a : Bool) {b r : Bool} → a ≡ true → r ≡ b → r ≡ (a && b)
-and_then a {b} h e = e ∙ sym (ap (λ (t : Bool). t && b) h)
-
-pub and_not : (a b : Bool) → a ≡ false → false ≡ (a && b)
-and_not a b h = sym (ap (λ (t : Bool). t && b) h)
 
 limits_first : (w r : ℕ) → number_for false w r ≡ 11
 limits_first w r = refl

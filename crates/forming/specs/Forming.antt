@@ -1,11 +1,14 @@
 -- Forming packets (document 01, "Packets" and "Numbers returned").
 --   good_address a, good_count n    the address, and L or R, are within their limits
 --   in_limits q        address and counts of the request q are
+--   number_of x        the number of a refusal; number_in r, that of a call's result, 0 where it is not refused
 --   number_for g w r   the number for a request within its limits or not, where w bytes are wanted and the buffer has r
 --   form_number q d    the number that forming q in the buffer d gives
 --   formed q d        the buffer afterwards
-use Rattle.std.specs.Prelude.{ℕ, Bool, cond, ◌&&◌, List, eqb, leb, length}
+use Rattle.std.specs.Prelude.{ℕ, Bool, cond, ◌&&◌, List, eqb, leb, length, Result, Ok, Err}
 use Rattle.packet.specs.Request.{Request, write, read, write_read, packet_of}
+use Rattle.forming.specs.declared.Refusal.{Refusal}
+use Rattle.forming.specs.declared.Refusal.TheVariants.{Limits, Buffer}
 use Rattle.forming.specs.Buffer.{over}
 
 -- An address is at most 127.
@@ -20,6 +23,14 @@ unfoldable pub in_limits : Request → Bool
 in_limits (write a d) = good_address a && good_count (length d)
 in_limits (read a r) = good_address a && good_count r
 in_limits (write_read a d r) = good_address a && good_count (length d) && good_count r
+
+abbrev pub number_of : Refusal → ℕ
+number_of Limits = 11
+number_of Buffer = 12
+
+abbrev pub number_in : {T : Type 0} → Result T Refusal → ℕ
+number_in (Ok x) = 0
+number_in (Err why) = number_of why
 
 -- 11 if the address is above 127 or a count is not 1 to 255, then 12 if the buffer is too short, else 0.
 abbrev pub number_for : Bool → ℕ → ℕ → ℕ

@@ -1,5 +1,5 @@
 -- The bits of an ID.
---   bit_of_past     bits past the last read 0
+--   bit_of_past     bits past the last read 0; past_64, the same of a number of 64 bits as the shift has it
 --   bit_of_half     bit k of a half is bit k + 1
 --   bit_of_inj      numbers of n bits that are alike in all of them are equal
 use mathlib.Core.Path.{◌≡◌, refl, sym, ap, ◌∙◌}
@@ -16,6 +16,10 @@ use Rattle.identity.specs.Identity.{bit_of}
 pub bit_of_past : (n id k : ℕ) → id < 2 ^ n → n ≤ k → bit_of id k ≡ false
 unfolding bit_of
 bit_of_past n id k h p = ap (λ (q : ℕ). eqb (q % 2) 1) (div-eq_of_lt (lt_of_lt_of_le h (pow_mono p)))
+
+-- the same of the numbers of 64 bits, for the tactics
+pub past_64 : (id k : ℕ) → id < 2 ^ 64 → 64 ≤ k → id / 2 ^ k ≡ 0
+past_64 id k h p = div-eq_of_lt (lt_of_lt_of_le h (pow_mono p))
 
 pub bit_of_half : (id k : ℕ) → bit_of (id / 2) k ≡ bit_of id (suc k)
 unfolding bit_of

@@ -6,51 +6,59 @@
 // Worked example: 02 1C B8 01 00 00 00 A2 has the family 02h and the right CRC, and is the number A200_0000_01B8_1C02h.
 #![tactic(auto)]
 
-ghost use Rattle.std.specs.Prelude.{◌≡◌};
-ghost use Rattle.identity.specs.Identity.{number_of, bit_of, refusal_of};
+ghost use Rattle.std.specs.Prelude.{◌≡◌, IfOk};
+ghost use Rattle.identity.specs.Identity.{number_of, bit_of, refusal_of, number_returned, number_in};
 
-// What an ID is refused with ("Numbers returned"), or NOT_REFUSED.
-pub const NOT_REFUSED: u8 = 0;
+// What is wrong with an ID by itself.
+#[derive(Clone, Copy, PartialEq, Eq)]
+pub enum Refusal {
+    // The last byte is not the CRC-8 of the seven before it.
+    Crc,
+    // The family code is 00h.
+    Family,
+}
 
-pub const REFUSED_CRC: u8 = 2;
+impl Refusal {
+    // Its number in the table of document 01 ("Numbers returned").
+    pub fn number(self) -> u8
+        ensures { result ≡ number_returned self }
+    {
+        match self {
+            Refusal::Crc => 2,
+            Refusal::Family => 3,
+        }
+    }
+}
 
-pub const REFUSED_FAMILY: u8 = 3;
-
-// The ID as one number. It is built from the CRC down, so that the family code comes to lie in the low byte.
+// The ID as one number, with the family code in the low byte.
+#[tactic(auto, using(crate::proofs::Numbers::number_of_le))]
 pub fn number(bytes: &[u8; 8]) -> u64
     ensures { result ≡ number_of bytes.now }
 {
-    // The elements of a slice are known to be bytes.
-    let whole: &[u8] = bytes;
-    let mut number: u64 = 0;
-    let mut i: usize = 8;
-    while 0 < i {
-        i -= 1;
-        number = number * 256 + whole[i] as u64;
-    }
-    number
+    u64::from_le_bytes(*bytes)
 }
 
 // Bit k of an ID; a bit past the last is 0.
-#[tactic(auto, unfolding(crate::specs::Identity::bit_of))]
+#[tactic(auto, using(crate::proofs::Bits::past_64), unfolding(crate::specs::Identity::bit_of))]
 pub fn bit(id: u64, k: u8) -> bool
     ensures { result ≡ bit_of id k }
 {
-    if k < 64 { (id >> k) % 2 == 1 } else { false }
+    k < 64 && (id >> k) % 2 == 1
 }
 
-// What is wrong with an ID by itself: its CRC first, then its family.
-pub fn refusal(bytes: &[u8; 8]) -> u8
-    ensures { result ≡ refusal_of bytes.now }
+// The number of an ID with which nothing is wrong: its CRC is checked first, then its family.
+#[tactic(auto, unfolding(crate::specs::Identity::refusal_of, crate::specs::Identity::crc_right, crate::specs::Identity::family_of))]
+pub fn admitted(bytes: &[u8; 8]) -> Result<u64, Refusal>
+    ensures number_value { number_in result ≡ refusal_of bytes.now }
+    ensures id_value { IfOk result (λ id. id ≡ number_of bytes.now) }
 {
     // A part is taken of a slice, not of an array that is lent.
     let whole: &[u8] = bytes;
     if checksum::crc8(&whole[..7]) != bytes[7] {
-        return REFUSED_CRC;
+        return Err(Refusal::Crc);
     }
     if bytes[0] == 0 {
-        REFUSED_FAMILY
-    } else {
-        NOT_REFUSED
+        return Err(Refusal::Family);
     }
+    Ok(number(bytes))
 }

@@ -13,6 +13,7 @@ use mathlib.Core.Path.{◌≡◌, refl, sym, ap, ◌∙◌}
 use native.Mathlib.Omega.{arith}
 use lib.Dec.{ltb, lit<}
 use lib.ListN.{length, length-map}
+use Rattle.std.specs.Prelude.{Option, None, Some}
 use Rattle.line.specs.Line.{id_of}
 use Rattle.line.specs.declared.Line.{Line}
 use Rattle.probe.specs.declared.Probe.{Probe}
@@ -22,8 +23,6 @@ use Rattle.bridge.specs.Reached.{Reached}
 use Rattle.enumeration.specs.Order.{Among}
 use Rattle.enumeration.proofs.Tree.{has}
 use Rattle.enumeration.proofs.Leaves.{has_some}
-use Rattle.pass.specs.declared.Conflict.{Conflict}
-use Rattle.pass.specs.declared.Conflict.TheVariants.{Nowhere, At}
 use Rattle.pass.specs.declared.Walk.{Walk}
 use Rattle.pass.specs.Pass.{passed}
 use Rattle.pass.specs.Passes.{Result, absent, continued, searched, search}
@@ -38,10 +37,10 @@ use Rattle.levels.specs.Levels.{Pass, WithPresence, after_triplet, both_one, end
 -- ---- the passes of a search
 
 -- the pass that begins next
-abbrev next : ℕ → Conflict → Bridge → Pass
+abbrev next : ℕ → Option ℕ → Bridge → Pass
 next i c s = record { previous = i; conflict = c; bridge = command (0xB4 ∷ []) s }
 
-used_from : (b i : ℕ) (c : Conflict) (s : Bridge) → length (taken_from b i c s) ≡ (searched b i c s).passes
+used_from : (b i : ℕ) (c : Option ℕ) (s : Bridge) → length (taken_from b i c s) ≡ (searched b i c s).passes
 unfolding taken_from searched follow continued
 used_from zero i c s = refl
 used_from (suc b) i c s =
@@ -49,12 +48,12 @@ used_from (suc b) i c s =
     go (next i c s).bridge.registers.status.ppd w.conflict (taken_from b w.id w.conflict w.bridge)
     (searched b w.id w.conflict w.bridge) (used_from b w.id w.conflict w.bridge)
   where
-    go : (t : Bool) (q : Conflict) (l : List Pass) (r : Result) → length l ≡ r.passes → length (next i c s ∷ cond t (follow q l) []) ≡ (cond t (continued q (walk i c s) r) (absent (command (0xB4 ∷ []) s))).passes
-    go true Nowhere l r e = refl
-    go true (At k) l r e = ap suc e
+    go : (t : Bool) (q : Option ℕ) (l : List Pass) (r : Result) → length l ≡ r.passes → length (next i c s ∷ cond t (follow q l) []) ≡ (cond t (continued q (walk i c s) r) (absent (command (0xB4 ∷ []) s))).passes
+    go true None l r e = refl
+    go true (Some k) l r e = ap suc e
     go false q l r e = refl
 
-ends_from : (b i : ℕ) (c : Conflict) (s : Bridge) → ends_of (taken_from b i c s) ≡ (searched b i c s).ids
+ends_from : (b i : ℕ) (c : Option ℕ) (s : Bridge) → ends_of (taken_from b i c s) ≡ (searched b i c s).ids
 unfolding taken_from searched follow continued ends_of
 ends_from zero i c s = refl
 ends_from (suc b) i c s =
@@ -62,9 +61,9 @@ ends_from (suc b) i c s =
     go (next i c s).bridge.registers.status.ppd refl w.conflict (taken_from b w.id w.conflict w.bridge)
     (searched b w.id w.conflict w.bridge) (ends_from b w.id w.conflict w.bridge)
   where
-    go : (t : Bool) → (next i c s).bridge.registers.status.ppd ≡ t → (q : Conflict) (l : List Pass) (r : Result) → ends_of l ≡ r.ids → ends_of (next i c s ∷ cond t (follow q l) []) ≡ (cond t (continued q (walk i c s) r) (absent (command (0xB4 ∷ []) s))).ids
-    go true p Nowhere l r e = ap (λ (t : Bool). cond {A = List ℕ} t (end_of (next i c s) ∷ []) []) p
-    go true p (At k) l r e =
+    go : (t : Bool) → (next i c s).bridge.registers.status.ppd ≡ t → (q : Option ℕ) (l : List Pass) (r : Result) → ends_of l ≡ r.ids → ends_of (next i c s ∷ cond t (follow q l) []) ≡ (cond t (continued q (walk i c s) r) (absent (command (0xB4 ∷ []) s))).ids
+    go true p None l r e = ap (λ (t : Bool). cond {A = List ℕ} t (end_of (next i c s) ∷ []) []) p
+    go true p (Some k) l r e =
         ap (λ (t : Bool). cond {A = List ℕ} t (end_of (next i c s) ∷ ends_of l) (ends_of l)) p
         ∙ ap (λ (x : List ℕ). end_of (next i c s) ∷ x) e
     go false p q l r e = ap (λ (t : Bool). cond {A = List ℕ} t (end_of (next i c s) ∷ []) []) p
@@ -90,7 +89,7 @@ module _ (ids : List ℕ) (entries : List Probe) where
     pub idle : Idle ids (free entries) from
     pub reset : p.bridge ≡ command (0xB4 ∷ []) from
 
-  begins : (b i : ℕ) (c : Conflict) (s : Bridge) → Idle ids (free entries) s → (p : Pass) → Among p (taken_from b i c s) → Begins p
+  begins : (b i : ℕ) (c : Option ℕ) (s : Bridge) → Idle ids (free entries) s → (p : Pass) → Among p (taken_from b i c s) → Begins p
   unfolding taken_from follow
   begins zero i c s t p m = absurd (Memᴰ.not-nil m)
   begins (suc b) i c s t p m =
@@ -101,9 +100,9 @@ module _ (ids : List ℕ) (entries : List Probe) where
       w : Walk
       w = walk i c s
 
-      go : (v : Bool) → (next i c s).bridge.registers.status.ppd ≡ v → (q : Conflict) (l : List Pass) → ((next i c s).bridge.registers.status.ppd ≡ true → Among p l → Begins p) → Among p (cond v (follow q l) []) → Begins p
-      go true e Nowhere l rest n = absurd (Memᴰ.not-nil n)
-      go true e (At k) l rest n = rest e n
+      go : (v : Bool) → (next i c s).bridge.registers.status.ppd ≡ v → (q : Option ℕ) (l : List Pass) → ((next i c s).bridge.registers.status.ppd ≡ true → Among p l → Begins p) → Among p (cond v (follow q l) []) → Begins p
+      go true e None l rest n = absurd (Memᴰ.not-nil n)
+      go true e (Some k) l rest n = rest e n
       go false e q l rest n = absurd (Memᴰ.not-nil n)
 
   -- one of the levels is 0
@@ -122,19 +121,19 @@ never_both_one s r zero p m present k h = absurd (Memᴰ.not-nil m)
 never_both_one s r (suc b) p m present k h =
     let l = reached_kept r in
     heard_in l.ids l.entries p
-    (begins l.ids l.entries (suc b) 0 Nowhere (command (0xF0 ∷ []) s) (started s l.holds) p m) present k (omega arith)
+    (begins l.ids l.entries (suc b) 0 None (command (0xF0 ∷ []) s) (started s l.holds) p m) present k (omega arith)
 
 -- ---- all of it
 
 used : (b : ℕ) (s : Bridge) → length (passes_taken b s) ≡ (search b s).passes
 unfolding passes_taken search
 used zero s = refl
-used (suc b) s = used_from (suc b) 0 Nowhere (command (0xF0 ∷ []) s)
+used (suc b) s = used_from (suc b) 0 None (command (0xF0 ∷ []) s)
 
 ends : (b : ℕ) (s : Bridge) → ends_of (passes_taken b s) ≡ (search b s).ids
 unfolding passes_taken search ends_of
 ends zero s = refl
-ends (suc b) s = ends_from (suc b) 0 Nowhere (command (0xF0 ∷ []) s)
+ends (suc b) s = ends_from (suc b) 0 None (command (0xF0 ∷ []) s)
 
 whole : (p : Pass) → after_triplet 63 p ≡ (passed p.previous p.conflict p.bridge).bridge
 unfolding after_triplet passed

@@ -10,13 +10,11 @@
 --   ends_of l             the IDs at which those of l end that began with presence
 --   NeverBothOne s       from s on, with any allowance, no triplet of a pass that began with presence ends with both levels 1
 --   Levels               that this is so, and that these triplets are those of the search
-use Rattle.std.specs.Prelude.{ℕ, zero, suc, ◌<◌, Bool, true, false, cond, ◌&&◌, List, [], ◌∷◌, ◌≡◌, length}
+use Rattle.std.specs.Prelude.{ℕ, zero, suc, ◌<◌, Bool, true, false, cond, ◌&&◌, List, [], ◌∷◌, ◌≡◌, length, Option, None, Some}
 use Rattle.bridge.specs.declared.Bridge.{Bridge}
 use Rattle.bridge.specs.Bridge.{command}
 use Rattle.bridge.specs.Reached.{Reached}
 use Rattle.enumeration.specs.Order.{Among}
-use Rattle.pass.specs.declared.Conflict.{Conflict}
-use Rattle.pass.specs.declared.Conflict.TheVariants.{Nowhere, At}
 use Rattle.pass.specs.Pass.{begun, walked, passed}
 use Rattle.pass.specs.Passes.{search}
 
@@ -25,7 +23,7 @@ use Rattle.pass.specs.Passes.{search}
 -- A pass goes by the ID at which the pass before it ended and by that pass's last conflict.
 pub record Pass : Type 0 where
   pub previous : ℕ
-  pub conflict : Conflict
+  pub conflict : Option ℕ
   pub bridge : Bridge
 
 -- PPD is 1 after its 1-Wire Reset.
@@ -46,12 +44,12 @@ end_of p = (passed p.previous p.conflict p.bridge).id
 -- ---- the passes of a search
 
 -- With no conflict the search is complete.
-unfoldable pub follow : Conflict → List Pass → List Pass
-follow Nowhere l = []
-follow (At k) l = l
+unfoldable pub follow : Option ℕ → List Pass → List Pass
+follow None l = []
+follow (Some k) l = l
 
 -- Each begins with a 1-Wire Reset; one that finds no presence is the last.
-unfoldable pub taken_from : ℕ → ℕ → Conflict → Bridge → List Pass
+unfoldable pub taken_from : ℕ → ℕ → Option ℕ → Bridge → List Pass
 taken_from zero i c s = []
 taken_from (suc b) i c s =
     let r = command (0xB4 ∷ []) s in
@@ -62,7 +60,7 @@ taken_from (suc b) i c s =
 -- With no pass allowed nothing is issued; otherwise one Device Reset comes first.
 unfoldable pub passes_taken : ℕ → Bridge → List Pass
 passes_taken zero s = []
-passes_taken (suc b) s = taken_from (suc b) 0 Nowhere (command (0xF0 ∷ []) s)
+passes_taken (suc b) s = taken_from (suc b) 0 None (command (0xF0 ∷ []) s)
 
 unfoldable pub ends_of : List Pass → List ℕ
 ends_of [] = []

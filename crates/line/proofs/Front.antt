@@ -1,19 +1,21 @@
 -- The first entries of a table, over any type of entry.
 --   stepped f i l      l with f done to each of its first i entries
---   stepped_next       one entry more; stepped_kept, one that f leaves as it is
+--   stepped_next       one entry more; stepped_set, of a table that is said to be so far; stepped_all, every entry
 --   both, first_of, rest_of     two tests in a row
 --   take_beyond, drop_beyond    a count beyond the table's end means the whole table
---   all_none           no entry fails a test yet; all_next, one more passes it; all_fails, one fails it
---   any_all            some entry passes a test, unless all fail it
+--   all_next           one entry more passes a test
+--   any_std, all_std   the library's words for it
 --   any_map            a test of what a function makes of each entry
-use mathlib.Core.Path.{◌≡◌, refl, sym, ap, ◌∙◌}
-use mathlib.Core.Bool.{Bool, true, false, cond, not, false≢true}
-use mathlib.Core.List.{List, [], ◌∷◌, ◌++◌, map}
+--   beyond             what the tactics take of these
+use mathlib.Core.Path.{◌≡◌, refl, sym, ap, ap₂, ◌∙◌}
+use mathlib.Core.Bool.{Bool, true, false, cond, ◌||◌, ◌&&◌, false≢true}
+use mathlib.Core.List.{List, [], ◌∷◌, ◌++◌, map, append-nil}
 use Prim.Native.Nat.{ℕ, zero, suc, ◌+◌, ◌<◌, ◌≤◌}
 use native.Mathlib.Numerals.{add-one}
 use native.Mathlib.Omega.{arith}
 use lib.ListN.{length, get_or, take, drop, set, drop_of_length-le}
 use lib.Seq.{take_all}
+use Rattle.std.specs.List.{list_any, list_all}
 use Rattle.line.specs.Line.{all, any}
 
 -- ---- two tests in a row
@@ -29,14 +31,6 @@ pub rest_of : (s t : Bool) → cond s t false ≡ true → t ≡ true
 rest_of true t e = e
 rest_of false t e = absurd (false≢true e)
 
-either : (s t : Bool) → t ≡ false → cond s t false ≡ false
-either true t e = e
-either false t e = refl
-
-flipped : (s t : Bool) → cond s true (not t) ≡ not (cond (not s) t false)
-flipped true t = refl
-flipped false t = refl
-
 module _ {A : Type 0} where
   -- ---- what is done to each
 
@@ -51,15 +45,14 @@ module _ {A : Type 0} where
   pub stepped_next : (f : A → A) (l : List A) (i : ℕ) (d : A) → i < length l → set (stepped f i l) i (f (get_or (stepped f i l) i d)) ≡ stepped f (i + 1) l
   stepped_next f l i d h = rw add-one (next f l i d h)
 
-  kept : (f : A → A) (l : List A) (i : ℕ) (d : A)
-      → i < length l → f (get_or (stepped f i l) i d) ≡ get_or (stepped f i l) i d → stepped f i l ≡ stepped f (suc i) l
-  kept f [] i d h e = absurd (omega arith)
-  kept f (x ∷ l) zero d h e = ap (λ (y : A). y ∷ l) (sym e)
-  kept f (x ∷ l) (suc i) d h e = ap (λ (t : List A). f x ∷ t) (kept f l i d (omega arith) e)
+  -- a table m of which the first i entries are gone through, and f is done to one more
+  pub stepped_set : (f : A → A) (l m : List A) (i : ℕ) (d p : A)
+      → i < length l → m ≡ stepped f i l → p ≡ f (get_or m i d) → set m i p ≡ stepped f (i + 1) l
+  stepped_set f l m i d p h e q =
+      ap₂ (λ (t : List A) (x : A). set t i x) e (q ∙ ap (λ (t : List A). f (get_or t i d)) e) ∙ stepped_next f l i d h
 
-  pub stepped_kept : (f : A → A) (l : List A) (i : ℕ) (d : A)
-      → i < length l → f (get_or (stepped f i l) i d) ≡ get_or (stepped f i l) i d → stepped f i l ≡ stepped f (i + 1) l
-  stepped_kept f l i d h e = rw add-one (kept f l i d h e)
+  pub stepped_all : (f : A → A) (l : List A) (i : ℕ) → length l ≤ i → stepped f i l ≡ map f l
+  stepped_all f l i h = rw (take_all i l h, drop_of_length-le l h, append-nil)
 
   -- ---- a count beyond the end
 
@@ -70,10 +63,6 @@ module _ {A : Type 0} where
   drop_beyond l m n h k = drop_of_length-le l h ∙ sym (drop_of_length-le l k)
 
   -- ---- tests
-
-  pub all_none : (f : A → Bool) (l : List A) → all f (take 0 l) ≡ true
-  unfolding all
-  all_none f l = refl
 
   more : (f : A → Bool) (l : List A) (i : ℕ) (d : A)
       → i < length l → all f (take i l) ≡ true → f (get_or l i d) ≡ true → all f (take (suc i) l) ≡ true
@@ -88,21 +77,30 @@ module _ {A : Type 0} where
       → i < length l → all f (take i l) ≡ true → f (get_or l i d) ≡ true → all f (take (i + 1) l) ≡ true
   all_next f l i d h a e = rw add-one (more f l i d h a e)
 
-  pub all_fails : (f : A → Bool) (l : List A) (k i : ℕ) (d : A) → i < k → i < length l → f (get_or l i d) ≡ false → all f (take k l) ≡ false
-  unfolding all
-  all_fails f [] k i d g h e = absurd (omega arith)
-  all_fails f (x ∷ l) zero i d g h e = absurd (omega arith)
-  all_fails f (x ∷ l) (suc k) zero d g h e = ap (λ (b : Bool). cond b (all f (take k l)) false) e
-  all_fails f (x ∷ l) (suc k) (suc i) d g h e =
-      either (f x) (all f (take k l)) (all_fails f l k i d (omega arith) (omega arith) e)
+-- ---- the library's words
 
-  pub any_all : (f : A → Bool) (l : List A) → any f l ≡ not (all (λ (x : A). not (f x)) l)
-  unfolding any all
-  any_all f [] = refl
-  any_all f (x ∷ l) =
-      ap (λ (t : Bool). cond (f x) true t) (any_all f l) ∙ flipped (f x) (all (λ (y : A). not (f y)) l)
+pub any_std : {A : Type 0} (f : A → Bool) (l : List A) → list_any f l ≡ any f l
+unfolding any
+any_std f [] = refl
+any_std f (x ∷ l) = ap (λ (t : Bool). f x || t) (any_std f l) ∙ go (f x) (any f l)
+  where
+    go : (s t : Bool) → (s || t) ≡ cond s true t
+    go true t = refl
+    go false t = refl
+
+pub all_std : {A : Type 0} (f : A → Bool) (l : List A) → list_all f l ≡ all f l
+unfolding all
+all_std f [] = refl
+all_std f (x ∷ l) = ap (λ (t : Bool). f x && t) (all_std f l) ∙ go (f x) (all f l)
+  where
+    go : (s t : Bool) → (s && t) ≡ cond s t false
+    go true t = refl
+    go false t = refl
 
 pub any_map : {A B : Type 0} (f : B → Bool) (g : A → B) (l : List A) → any f (map g l) ≡ any (λ (x : A). f (g x)) l
 unfolding any
 any_map f g [] = refl
 any_map f g (x ∷ l) = ap (λ (t : Bool). cond (f (g x)) true t) (any_map f g l)
+
+-- what the tactics take of these
+pub ruleset beyond = (take_beyond, drop_beyond)

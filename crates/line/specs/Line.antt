@@ -12,11 +12,18 @@
 --   present v l        some probe answers that reset
 --   fit_number x l      the number that fitting the ID of the bytes x gives
 --   after_fit x l       the line after that
-use Rattle.std.specs.Prelude.{ℕ, zero, suc, ◌+◌, ◌*◌, ◌/◌, ◌%◌, Bool, true, false, cond, List, [], ◌∷◌, ◌++◌, map, eqb, leb, ltb, take, drop, set, replicate}
+--   number_returned r   the number of a refusal in the table
+--   number_in a         the number that an answer stands for: 0 if it is a line
+--   line_in l a         the line after an answer: on a refusal the line l that was there before
+use Rattle.std.specs.Prelude.{ℕ, zero, suc, ◌+◌, ◌*◌, ◌/◌, ◌%◌, Bool, true, false, cond, List, [], ◌∷◌, ◌++◌, map, eqb, leb, ltb, take, drop, set, replicate, Result, Ok, Err}
+use Rattle.identity.specs.declared.Refusal.{Refusal as WrongID}
+use Rattle.identity.specs.declared.Refusal.TheVariants as wrong
 use Rattle.identity.specs.Identity.{number_of, refusal_of}
 use Rattle.probe.specs.declared.Probe.{Probe}
 use Rattle.probe.specs.Probe.{standard, deaf_new, reaches, sends_at, took_at, reset, digit}
 use Rattle.line.specs.declared.Line.{Line}
+use Rattle.line.specs.declared.Refusal.{Refusal}
+use Rattle.line.specs.declared.Refusal.TheVariants.{Full, Crc, Family, Fitted}
 
 -- Every element passes the test; some element does.
 unfoldable pub all : {A : Type 0} → (A → Bool) → List A → Bool
@@ -91,3 +98,24 @@ with_probe i l = record { probes = set l.probes l.count (deaf_new i); count = l.
 -- A refused fitting leaves the line as it was.
 unfoldable pub after_fit : List ℕ → Line → Line
 after_fit x l = cond (eqb (fit_number x l) 0) (with_probe (number_of x) l) l
+
+-- ---- refusals
+
+-- What is wrong with an ID by itself is refused as such.
+abbrev pub of_identity : WrongID → Refusal
+of_identity wrong.Crc = Crc
+of_identity wrong.Family = Family
+
+abbrev pub number_returned : Refusal → ℕ
+number_returned Full = 1
+number_returned Crc = 2
+number_returned Family = 3
+number_returned Fitted = 4
+
+abbrev pub number_in : Result Line Refusal → ℕ
+number_in (Ok m) = 0
+number_in (Err r) = number_returned r
+
+abbrev pub line_in : {E : Type 0} → Line → Result Line E → Line
+line_in l (Ok m) = m
+line_in l (Err r) = l

@@ -5,33 +5,29 @@
 // Worked example: for 00 05 1F 04 6D 24 it is the five lines of the run; for no byte at all it is 15 and a newline.
 #![tactic(auto)]
 
-ghost use Rattle.std.specs.Prelude.{[], ◌∷◌, ◌++◌, ◌≡◌, ◌<◌, ◌≤◌, length, drop};
-ghost use Rattle.transcript.specs.Text.{Put, pair_of};
+ghost use Rattle.std.specs.Prelude.{◌∷◌, ◌++◌, ◌≡◌, ◌<◌, ◌≤◌, length, drop};
+ghost use Rattle.transcript.specs.Text.{pair_of};
 ghost use Rattle.output.specs.Output.{transcript_of};
 
-use transcript::Run;
-
 // The line of a refused script: its number, which has two digits.
+// As it is: by `write!` there would be a Result to handle and the rest of the slice to count, for one line of digits.
 fn put_refusal(out: &mut [u8], number: u8) -> usize
     requires { (number < 100) × (3 ≤ length out.old) }
-    ensures { Put out.old out.new 0 result (pair_of number ++ (0x0A ∷ [])) }
+    ensures { (result ≡ 3) × (out.new ≡ pair_of number ++ 0x0A ∷ drop 3 out.old) }
 {
-    out[0] = b'0' + number / 10;
-    out[1] = b'0' + number % 10;
-    out[2] = b'\n';
-    3
+    let line = [b'0' + number / 10, b'0' + number % 10, b'\n'];
+    out[..3].copy_from_slice(&line);
+    line.len()
 }
 
 // Lays what the bench prints to the front of the buffer, and returns how many bytes that is.
+// As it is: the clause `value` gives the length, as that of the run does.
 pub fn output(script: &[u8], out: &mut [u8; transcript::MOST]) -> usize
     ensures value { result ≡ length (transcript_of script.now) }
     ensures out_after { out.new ≡ transcript_of script.now ++ drop (length (transcript_of script.now)) out.old }
 {
     match transcript::transcript(script, out) {
-        Run::Done { len } => len,
-        Run::Refused { number } => {
-            let laid: &mut [u8] = out;
-            put_refusal(laid, number)
-        }
+        Ok(len) => len,
+        Err(refusal) => put_refusal(out, refusal.number()),
     }
 }

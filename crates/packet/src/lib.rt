@@ -9,6 +9,7 @@
 ghost use Rattle.std.specs.Prelude.{◌≡◌};
 ghost use Rattle.packet.specs.Request.{inverted_of};
 
+// As it is: the codes are bytes of a packet (document 01), and what reading gives carries numbers only (docs/FORMS.md).
 pub const WRITE: u8 = 0x4B;
 
 pub const READ: u8 = 0x87;
@@ -16,6 +17,7 @@ pub const READ: u8 = 0x87;
 pub const WRITE_READ: u8 = 0x2D;
 
 // The CRC-16 as it is sent behind the bytes.
+#[tactic(auto, unfolding(crate::specs::Request::inverted_of))]
 pub fn sent_crc(bytes: &[u8]) -> u16
     ensures { result ≡ inverted_of bytes.now }
 {

@@ -9,9 +9,8 @@ use Rattle.identity.specs.Identity.{number_of, bit_of, crc_right, family_of, ref
 use Rattle.line.specs.declared.Line.{Line}
 use Rattle.line.specs.Line.{fit_number}
 use Rattle.enumeration.specs.Order.{Before, Among, InOrder}
-use Rattle.reading.specs.declared.Reading.TheVariants.{Refused}
 use Rattle.packet.specs.Request.{read, body_of, inverted_of, seal_of, packet_of}
-use Rattle.reading.specs.Reading.{is_unknown, wanted_of, zero_count, parts_in, form_of, is_sealed, checked, reading_of}
+use Rattle.reading.specs.Reading.{is_unknown, wanted_of, zero_count, parts_in, form_of, is_sealed, checked, reading_of, Refuses}
 use Rattle.paper.proofs.Wire.{p9_refused, p9_accepted, p9_read, p10, p11}
 use Rattle.paper.specs.Paper.{Paper, a, b, c}
 
@@ -85,13 +84,13 @@ p6 : packet_of (read 0x20 2) ≡ 0x87 ∷ 0x41 ∷ 0x02 ∷ 0xFE ∷ 0x47 ∷ []
 unfolding packet_of body_of seal_of inverted_of crc16_of crc_from entered shifts shifted taps16 taps
 p6 = refl
 
-p7 : reading_of (0x87 ∷ 0x41 ∷ 0x02 ∷ 0xFE ∷ 0x46 ∷ []) ≡ Refused 14 0
+p7 : Refuses (reading_of (0x87 ∷ 0x41 ∷ 0x02 ∷ 0xFE ∷ 0x46 ∷ [])) 14 0
 unfolding reading_of checked form_of is_unknown wanted_of zero_count parts_in is_sealed inverted_of crc16_of crc_from entered shifts shifted taps16 taps
-p7 = refl
+p7 = (refl, refl)
 
-p8 : (x y : ℕ) → reading_of (0x87 ∷ 0x41 ∷ 0x00 ∷ x ∷ y ∷ []) ≡ Refused 18 2
+p8 : (x y : ℕ) → Refuses (reading_of (0x87 ∷ 0x41 ∷ 0x00 ∷ x ∷ y ∷ [])) 18 2
 unfolding reading_of checked form_of is_unknown wanted_of zero_count
-p8 x y = refl
+p8 x y = (refl, refl)
 
 pub paper : Paper
 paper =

@@ -9,9 +9,8 @@ use Rattle.identity.specs.Identity.{number_of, refusal_of}
 use Rattle.line.specs.declared.Line.{Line}
 use Rattle.line.specs.Line.{fit_number}
 use Rattle.enumeration.specs.Order.{InOrder}
-use Rattle.reading.specs.declared.Reading.TheVariants.{Refused}
 use Rattle.packet.specs.Request.{read, packet_of}
-use Rattle.reading.specs.Reading.{reading_of}
+use Rattle.reading.specs.Reading.{reading_of, Refuses}
 use Rattle.bridge.specs.declared.Bridge.{Bridge}
 use Rattle.bridge.specs.Bridge.{power_on, read_of, busy, write_number, after_write, after_fitting, command}
 
@@ -40,9 +39,9 @@ pub record Paper : Type 0 where
   pub p5 : InOrder (number_of a ∷ number_of b ∷ number_of c ∷ []) (number_of c ∷ number_of b ∷ number_of a ∷ [])
   -- a read, address 20h, 2 bytes
   pub p6 : packet_of (read 0x20 2) ≡ 0x87 ∷ 0x41 ∷ 0x02 ∷ 0xFE ∷ 0x47 ∷ []
-  pub p7 : reading_of (0x87 ∷ 0x41 ∷ 0x02 ∷ 0xFE ∷ 0x46 ∷ []) ≡ Refused 14 0
+  pub p7 : Refuses (reading_of (0x87 ∷ 0x41 ∷ 0x02 ∷ 0xFE ∷ 0x46 ∷ [])) 14 0
   -- by document 02, R-1: a count of zero, at offset 2
-  pub p8 : (x y : ℕ) → reading_of (0x87 ∷ 0x41 ∷ 0x00 ∷ x ∷ y ∷ []) ≡ Refused 18 2
+  pub p8 : (x y : ℕ) → Refuses (reading_of (0x87 ∷ 0x41 ∷ 0x00 ∷ x ∷ y ∷ [])) 18 2
   -- on any bridge with nothing pending, a configuration byte refused, and one accepted and read back
   pub p9 : (s : Bridge) → busy s ≡ false → (write_number (0xD2 ∷ 0xD2 ∷ []) s ≡ 8) × (write_number (0xD2 ∷ 0xE1 ∷ []) s ≡ 0) × (read_of (after_write (0xD2 ∷ 0xE1 ∷ []) s) ≡ 0x01)
   -- one probe of any accepted ID

@@ -7,16 +7,16 @@ use mathlib.Core.List.{[], ◌∷◌}
 use Prim.Native.Nat.{ℕ, suc, ◌+◌, ◌-◌, ◌*◌, ◌^◌, ◌<◌}
 use native.Mathlib.Numerals.{add-one}
 use native.Mathlib.Omega.{arith}
+use Rattle.std.specs.Prelude.{Option}
 use Rattle.probe.specs.Probe.{digit}
 use Rattle.bridge.specs.declared.Bridge.{Bridge}
 use Rattle.bridge.specs.Bridge.{command}
-use Rattle.pass.specs.declared.Conflict.{Conflict}
 use Rattle.pass.specs.declared.Walk.{Walk}
 use Rattle.pass.specs.Pass.{direction, noted, triplet_byte, took_triplet, tripled, walked}
 
-module _ (i : ℕ) (c : Conflict) (k : ℕ) (w : Walk) where
+module _ (i : ℕ) (c : Option ℕ) (k : ℕ) (w : Walk) where
   -- the bridge after the triplet shows the bit taken and the two levels
-  pub tripled_by : {b : Bridge} {j : ℕ} {q : Conflict} → let s = b.registers.status in b ≡ command (0x78 ∷ triplet_byte (direction i c k) ∷ []) w.bridge → j ≡ w.id + digit s.dir * 2 ^ k → q ≡ noted s.sbr s.tsb s.dir k w.conflict → ◌≡◌ {A = Walk} (record { bridge = b; id = j; conflict = q }) (tripled i c k w)
+  pub tripled_by : {b : Bridge} {j : ℕ} {q : Option ℕ} → let s = b.registers.status in b ≡ command (0x78 ∷ triplet_byte (direction i c k) ∷ []) w.bridge → j ≡ w.id + digit s.dir * 2 ^ k → q ≡ noted s.sbr s.tsb s.dir k w.conflict → ◌≡◌ {A = Walk} (record { bridge = b; id = j; conflict = q }) (tripled i c k w)
   unfolding tripled took_triplet
   tripled_by {b} e f g = (λ r. record { bridge = b; id = f r; conflict = g r }) ∙ ap (λ (v : Bridge). took_triplet k v w) e
 

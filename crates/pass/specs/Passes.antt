@@ -5,11 +5,9 @@
 --   continued c w r         what a walk w with the last conflict c comes to, if the passes after it come to r
 --   searched b i c s        what at most b passes from the bridge s on come to
 --   search b s              what a search that is allowed b passes comes to: IDs, passes used, completeness, the bridge afterwards
-use Rattle.std.specs.Prelude.{ℕ, zero, suc, Bool, true, false, cond, List, [], ◌∷◌}
+use Rattle.std.specs.Prelude.{ℕ, zero, suc, Bool, true, false, cond, List, [], ◌∷◌, Option, None, Some}
 use Rattle.bridge.specs.declared.Bridge.{Bridge}
 use Rattle.bridge.specs.Bridge.{command}
-use Rattle.pass.specs.declared.Conflict.{Conflict}
-use Rattle.pass.specs.declared.Conflict.TheVariants.{Nowhere, At}
 use Rattle.pass.specs.declared.Walk.{Walk}
 use Rattle.pass.specs.Pass.{passed}
 
@@ -36,12 +34,12 @@ abbrev pub before : ℕ → Result → Result
 before i r = record { ids = i ∷ r.ids; passes = suc r.passes; complete = r.complete; bridge = r.bridge }
 
 -- after a pass that ended with the conflict c: nothing more, or what `rest` says of the next passes
-unfoldable pub continued : Conflict → Walk → Result → Result
-continued Nowhere w rest = last_one w
-continued (At c) w rest = before w.id rest
+unfoldable pub continued : Option ℕ → Walk → Result → Result
+continued None w rest = last_one w
+continued (Some c) w rest = before w.id rest
 
 -- At most b passes, each a 1-Wire Reset and, where PPD is 1, Write Byte F0h and 64 triplets.
-unfoldable pub searched : ℕ → ℕ → Conflict → Bridge → Result
+unfoldable pub searched : ℕ → ℕ → Option ℕ → Bridge → Result
 searched zero i c s = exhausted s
 searched (suc b) i c s =
     let r = command (0xB4 ∷ []) s in
@@ -53,4 +51,4 @@ searched (suc b) i c s =
 -- With no pass allowed nothing is issued; otherwise one Device Reset comes first.
 unfoldable pub search : ℕ → Bridge → Result
 search zero s = exhausted s
-search (suc b) s = searched (suc b) 0 Nowhere (command (0xF0 ∷ []) s)
+search (suc b) s = searched (suc b) 0 None (command (0xF0 ∷ []) s)

@@ -17,67 +17,55 @@ ghost use Rattle.pass.specs.Pass.{direction as direction_at, noted as noted_at, 
 use bridge::Bridge;
 use probe::SEARCH_ROM;
 
-// The highest bit of a pass at which both levels were 0 and 0 was taken, if there is one.
-#[derive(Clone, Copy)]
-pub enum Conflict {
-    Nowhere,
-    At { bit: u8 },
-}
-
-// A pass under way: the bridge, the bits taken so far as a number, and the last conflict so far.
+// A pass under way: the bridge, the bits taken so far as a number, and the last conflict so far: the highest bit at which both levels were
+// 0 and 0 was taken, if there is one.
 #[derive(Clone, Copy)]
 pub struct Walk {
     pub bridge: Bridge,
     pub id: u64,
-    pub conflict: Conflict,
+    pub conflict: Option<u8>,
 }
 
-// A write, and time passing.
+// A write, and time passing: a write that is refused leaves the bridge as it was.
+#[tactic(auto, unfolding(bridge::specs::Bridge::command))]
 pub fn command(bridge: Bridge, bytes: &[u8]) -> Bridge
     ensures { result ≡ command_of bytes.now bridge }
 {
-    let answer = bridge.write(bytes);
-    let written = answer.bridge;
-    written.wait()
+    // Each outcome has its own `wait`: one that takes either bridge copies it twice more.
+    match bridge.write(bytes) {
+        Ok(written) => written.wait(),
+        Err(_) => bridge.wait(),
+    }
 }
 
 // The direction to ask for at bit k, after a pass that ended at an ID with a last conflict.
 #[tactic(auto, unfolding(crate::specs::Pass::direction))]
-fn direction(previous: u64, conflict: Conflict, k: u8) -> bool
+fn direction(previous: u64, conflict: Option<u8>, k: u8) -> bool
     ensures { result ≡ direction_at previous conflict k }
 {
     match conflict {
-        Conflict::Nowhere => false,
-        Conflict::At { bit } => {
-            if k < bit {
-                identity::bit(previous, k)
-            } else {
-                k == bit
-            }
-        }
+        None => false,
+        Some(bit) if k < bit => identity::bit(previous, k),
+        Some(bit) => k == bit,
     }
 }
 
 fn triplet_byte(direction: bool) -> u8
     ensures { result ≡ triplet_byte direction }
 {
-    if direction { 128 } else { 0 }
+    u8::from(direction) * 128
 }
 
 // The last conflict after the triplet of bit k.
-fn noted(first: bool, second: bool, taken: bool, k: u8, conflict: Conflict) -> Conflict
+#[tactic(auto, unfolding(crate::specs::Pass::noted))]
+fn noted(first: bool, second: bool, taken: bool, k: u8, conflict: Option<u8>) -> Option<u8>
     ensures { result ≡ noted_at first second taken k conflict }
 {
-    if first {
-        return conflict;
+    if first || second || taken {
+        conflict
+    } else {
+        Some(k)
     }
-    if second {
-        return conflict;
-    }
-    if taken {
-        return conflict;
-    }
-    Conflict::At { bit: k }
 }
 
 // The bits below k, and bit k.
@@ -89,22 +77,18 @@ fn with_bit(id: u64, bit: bool, k: u8) -> u64
 }
 
 // The 64 triplets of a pass. Only the bridge goes round.
-fn triplets(previous: u64, before: Conflict, start: Bridge) -> Walk
+fn triplets(previous: u64, before: Option<u8>, start: Bridge) -> Walk
     ensures { result ≡ walked 64 0 previous before (begun start) }
 {
     let mut bridge = start;
     let mut id: u64 = 0;
-    let mut conflict = Conflict::Nowhere;
-    let mut k: u8 = 0;
-    while k < 64 {
+    let mut conflict = None;
+    for k in 0..64 {
         let asked = direction(previous, before, k);
-        let bytes = [Bridge::TRIPLET, triplet_byte(asked)];
-        bridge = command(bridge, &bytes);
-        let registers = bridge.registers;
-        let status = registers.status;
+        bridge = command(bridge, &[Bridge::TRIPLET, triplet_byte(asked)]);
+        let status = bridge.registers.status;
         id = with_bit(id, status.dir, k);
         conflict = noted(status.sbr, status.tsb, status.dir, k, conflict);
-        k += 1;
     }
     Walk {
         bridge,
@@ -113,10 +97,11 @@ fn triplets(previous: u64, before: Conflict, start: Bridge) -> Walk
     }
 }
 
-// A pass where a probe is present.
-pub fn pass(previous: u64, before: Conflict, bridge: Bridge) -> Walk
-    ensures { result ≡ passed previous before bridge }
+// A pass where a probe is present: it goes on from the bridge of the walk before it, by the ID and the last conflict of that walk.
+#[tactic(auto, unfolding(crate::specs::Pass::passed))]
+pub fn pass(before: Walk) -> Walk
+    ensures { result ≡ passed before.id before.conflict before.bridge }
 {
-    let bytes = [Bridge::WRITE_BYTE, SEARCH_ROM];
-    triplets(previous, before, command(bridge, &bytes))
+    let told = command(before.bridge, &[Bridge::WRITE_BYTE, SEARCH_ROM]);
+    triplets(before.id, before.conflict, told)
 }

@@ -7,13 +7,14 @@
 // Worked example: a probe that has taken seven bits of CCh and takes a last 1 is selected.
 #![tactic(auto)]
 
-ghost use Rattle.std.specs.Prelude.{◌≡◌, ◌+◌, ◌*◌, ◌/◌};
+ghost use Rattle.std.specs.Prelude.{◌≡◌};
 ghost use Rattle.probe.specs.declared.Condition.TheVariants.{Matching};
 ghost use Rattle.probe.specs.Probe.{deaf_new, in_condition, with_mark, reaches, sends_searching, sends, resumed};
-ghost use Rattle.probe.specs.Probe.{overdrive, at_speed, obeyed, differed, reset, digit, agrees};
+ghost use Rattle.probe.specs.Probe.{overdrive, at_speed, obeyed, differed, reset, agrees};
 ghost use Rattle.probe.specs.Probe.{took_code, took_sending, took_matching, took_searching, took, rests};
 
 // The ROM commands.
+// As it is: bytes that come off the line: `obeyed` takes any byte, so an enum would ask more of its callers.
 pub const READ_ROM: u8 = 0x33;
 
 pub const MATCH_ROM: u8 = 0x55;
@@ -29,12 +30,13 @@ pub const OVERDRIVE_MATCH_ROM: u8 = 0x69;
 pub const RESUME: u8 = 0xA5;
 
 // The number of an ID's last bit, and of a code's.
-const LAST_BIT: u8 = 63;
+pub const LAST_BIT: u8 = 63;
 
 const LAST_CODE_BIT: u8 = 7;
 
-// The speed of a probe, or of the bridge, is a number: the configuration's bit 1WS. It is as wide as the room beside a probe's condition,
-// so that a copied probe has no gaps.
+// The speed of a probe, or of the bridge: the configuration's bit 1WS. It is as wide as the room beside a probe's condition, so that a
+// copied probe has no gaps.
+// As it is: slots and resets take any number for a speed, so an enum would ask more of the callers of `Line::slot` and the others.
 pub const STANDARD: u32 = 0;
 
 pub const OVERDRIVE: u32 = 1;
@@ -75,14 +77,8 @@ pub struct Probe {
     pub id: u64,
     pub marked: bool,
     pub condition: Condition,
+    // As it is: an enum took four instructions a probe in place of two, and left gaps that each copy filled (DECISIONS, ID-12).
     pub speed: u32,
-}
-
-// A code with one bit more: it goes in at the top and moves the earlier ones down.
-fn code_with(code: u8, level: bool) -> u8
-    ensures { result ≡ code / 2 + 128 * digit level }
-{
-    if level { code / 2 + 128 } else { code / 2 }
 }
 
 // What a probe is in once it has taken a command to match its ID.
@@ -93,7 +89,8 @@ fn matching(fallback: bool) -> Condition
 }
 
 // What Resume makes of a probe with this mark.
-fn resumed(marked: bool) -> Condition
+#[tactic(auto, unfolding(crate::specs::Probe::resumed))]
+pub fn resumed(marked: bool) -> Condition
     ensures { result ≡ resumed marked }
 {
     if marked {
@@ -116,25 +113,21 @@ impl Probe {
         }
     }
 
-    fn in_condition(self, condition: Condition) -> Probe
+    // The probe in another condition, its mark as it was.
+    pub fn in_condition(self, condition: Condition) -> Probe
         ensures { result ≡ in_condition self condition }
     {
-        Probe {
-            id: self.id,
-            marked: self.marked,
-            speed: self.speed,
-            condition,
-        }
+        Probe { condition, ..self }
     }
 
-    fn with_mark(self, marked: bool, condition: Condition) -> Probe
+    // The probe in another condition, its mark cleared or set.
+    pub fn with_mark(self, marked: bool, condition: Condition) -> Probe
         ensures { result ≡ with_mark self marked condition }
     {
         Probe {
-            id: self.id,
             marked,
-            speed: self.speed,
             condition,
+            ..self
         }
     }
 
@@ -142,14 +135,13 @@ impl Probe {
         ensures { result ≡ with_mark (at_speed overdrive self) marked condition }
     {
         Probe {
-            id: self.id,
-            marked,
             speed: OVERDRIVE,
-            condition,
+            ..self.with_mark(marked, condition)
         }
     }
 
     // Slots at this speed reach the probe.
+    #[tactic(auto, unfolding(crate::specs::Probe::reaches))]
     pub fn reached(self, speed: u32) -> bool
         ensures { result ≡ reaches speed self }
     {
@@ -174,23 +166,17 @@ impl Probe {
     pub fn sends(self) -> bool
         ensures { result ≡ sends self }
     {
-        let condition = self.condition;
-        match condition {
-            Condition::Deaf => true,
-            Condition::Taking { count: _, code: _ } => true,
+        match self.condition {
             Condition::Sending { bit } => identity::bit(self.id, bit),
-            Condition::Matching {
-                bit: _,
-                fallback: _,
-            } => true,
             Condition::Searching { bit, slot } => self.sends_searching(bit, slot),
-            Condition::Selected => true,
+            _ => true,
         }
     }
 
     // ---- what a probe becomes
 
     // The probe once a ROM command is whole.
+    // As it is: the code is what came off the line, each byte has its meaning, and no caller hands a step in.
     #[tactic(auto, unfolding(crate::specs::Probe::obeyed))]
     pub fn obeyed(self, code: u8) -> Probe
         ensures { result ≡ obeyed code self }
@@ -207,10 +193,11 @@ impl Probe {
         }
     }
 
+    #[tactic(auto, unfolding(crate::specs::Probe::took_code))]
     fn took_code(self, count: u8, code: u8, level: bool) -> Probe
         ensures { result ≡ took_code count code level self }
     {
-        let code = code_with(code, level);
+        let code = byte::with_level(code, level);
         if LAST_CODE_BIT <= count {
             self.obeyed(code)
         } else {
@@ -222,16 +209,13 @@ impl Probe {
     }
 
     // Whether a level is this bit of the ID.
-    fn agrees(self, level: bool, bit: u8) -> bool
+    pub fn agrees(self, level: bool, bit: u8) -> bool
         ensures { result ≡ agrees level self.id bit }
     {
-        if identity::bit(self.id, bit) {
-            level
-        } else {
-            !level
-        }
+        identity::bit(self.id, bit) == level
     }
 
+    #[tactic(auto, unfolding(crate::specs::Probe::took_sending))]
     fn took_sending(self, bit: u8) -> Probe
         ensures { result ≡ took_sending bit self }
     {
@@ -248,16 +232,16 @@ impl Probe {
     {
         if fallback {
             Probe {
-                id: self.id,
-                marked: self.marked,
                 speed: STANDARD,
                 condition: Condition::Deaf,
+                ..self
             }
         } else {
             self.in_condition(Condition::Deaf)
         }
     }
 
+    #[tactic(auto, unfolding(crate::specs::Probe::took_matching))]
     fn took_matching(self, bit: u8, fallback: bool, level: bool) -> Probe
         ensures { result ≡ took_matching bit fallback level self }
     {
@@ -276,6 +260,8 @@ impl Probe {
     }
 
     // The third slot of a search bit, for a probe that searches.
+    // As it is: what it shares with `took_matching`, one function would take with the next condition made, and there `bit + 1` need not fit.
+    #[tactic(auto, unfolding(crate::specs::Probe::took_searching))]
     fn took_third(self, bit: u8, level: bool) -> Probe
         ensures { result ≡ took_searching bit Slot.Third level self }
     {
@@ -315,54 +301,40 @@ impl Probe {
     pub fn rests(self) -> bool
         ensures { result ≡ rests self }
     {
-        let condition = self.condition;
-        match condition {
-            Condition::Deaf => true,
-            Condition::Taking { count: _, code: _ } => false,
-            Condition::Sending { bit: _ } => false,
-            Condition::Matching {
-                bit: _,
-                fallback: _,
-            } => false,
-            Condition::Searching { bit: _, slot: _ } => false,
-            Condition::Selected => true,
-        }
+        matches!(self.condition, Condition::Deaf | Condition::Selected)
     }
 
     // The probe after a slot of this level that reaches it.
+    // As it is: the condition, and the slot of a search, says which step is taken, and no caller hands one in; so in `took_searching`.
     #[tactic(auto, unfolding(crate::specs::Probe::took, crate::specs::Probe::took_in))]
     pub fn took(self, level: bool) -> Probe
         ensures { result ≡ took level self }
     {
-        let condition = self.condition;
-        match condition {
-            Condition::Deaf => self,
+        match self.condition {
+            Condition::Deaf | Condition::Selected => self,
             Condition::Taking { count, code } => self.took_code(count, code, level),
             Condition::Sending { bit } => self.took_sending(bit),
             Condition::Matching { bit, fallback } => self.took_matching(bit, fallback, level),
             Condition::Searching { bit, slot } => self.took_searching(bit, slot, level),
-            Condition::Selected => self,
         }
     }
 
     // The probe after a 1-Wire reset at this speed: taking a command, with no bits, if the reset reaches it.
+    #[tactic(auto, unfolding(crate::specs::Probe::reset))]
     pub fn reset(self, speed: u32) -> Probe
         ensures { result ≡ reset speed self }
     {
         let taking = Condition::Taking { count: 0, code: 0 };
         if speed == STANDARD {
             Probe {
-                id: self.id,
-                marked: self.marked,
                 speed: STANDARD,
                 condition: taking,
+                ..self
             }
+        } else if self.reached(speed) {
+            self.in_condition(taking)
         } else {
-            if self.reached(speed) {
-                self.in_condition(taking)
-            } else {
-                self
-            }
+            self
         }
     }
 }

@@ -2,14 +2,14 @@
 --   digit_le            a bit is 0 or 1
 --   good_stored         what is stored of a good byte: the nibble of its three bits
 --   configurations      the rule
-use mathlib.Core.Path.{◌≡◌, refl, sym, ap, ap₂, ◌∙◌}
-use mathlib.Core.Bool.{Bool, true, false, cond, ◌&&◌, and-eq-true_iff, false≢true}
+use mathlib.Core.Path.{◌≡◌, refl, ap, ◌∙◌}
+use mathlib.Core.Bool.{Bool, true, false, cond, false≢true}
 use mathlib.Core.List.{List, [], ◌∷◌}
 use mathlib.Core.Logic.{inl, inr}
 use Prim.Native.Nat.{ℕ, ◌+◌, ◌*◌, ◌-◌, ◌/◌, ◌%◌, ◌≤◌}
 use native.Mathlib.Omega.{arith}
-use borrow.Author.Tests.{eqb-true, eqb-false, eq-eqb}
-use lib.Dec.{eqb, lit≤}
+use Rattle.std.proofs.lemmas.Grind.{common_steps}
+use lib.Dec.{eqb}
 use Rattle.probe.specs.Probe.{digit}
 use Rattle.line.specs.Line.{any, all}
 use Rattle.byte_slots.proofs.Digits.{digit_odd}
@@ -18,21 +18,19 @@ use Rattle.bridge.specs.Bridge.{busy, bytes_of, taken_while_busy, good_configura
 use Rattle.pullup.specs.Pullup.{nibble, byte, eight_bytes, WrongByte, Configurations}
 
 pub digit_le : (t : Bool) → digit t ≤ 1
-digit_le true = lit≤ tt
-digit_le false = lit≤ tt
+digit_le true = omega arith
+digit_le false = omega arith
 
 -- ---- the rule
 
 -- what is asked of a byte
 good_when : (x : ℕ) → x / 2 % 2 ≡ 0 → x / 16 + x % 16 ≡ 15 → good_configuration x ≡ true
 unfolding good_configuration
-good_when x one sum = ap₂ ◌&&◌ (eq-eqb _ _ one) (eq-eqb _ _ sum)
+good_when x one sum = grind (arith, common_steps)
 
 good_then : (x : ℕ) → good_configuration x ≡ true → (x / 2 % 2 ≡ 0) × (x / 16 + x % 16 ≡ 15)
 unfolding good_configuration
-good_then x e =
-    let b = (and-eq-true_iff (eqb (x / 2 % 2) 0) (eqb (x / 16 + x % 16) 15)).0 e in
-    (eqb-true _ _ b.0, eqb-true _ _ b.1)
+good_then x e = (grind (arith, common_steps), grind (arith, common_steps))
 
 -- the three bits as numbers
 three_good : (a p w : ℕ) → a ≤ 1 → p ≤ 1 → w ≤ 1 → let n = a + p * 4 + w * 8 in good_configuration ((15 - n) * 16 + n) ≡ true
@@ -71,12 +69,7 @@ listed false false false = refl
 good_among : (x : ℕ) (l : List ℕ) → all good_configuration l ≡ true → any (eqb x) l ≡ true → good_configuration x ≡ true
 unfolding any all
 good_among x [] h e = absurd (false≢true e)
-good_among x (y ∷ l) h e = go (eqb x y) refl (good_configuration y) refl h e (good_among x l)
-  where
-    go : (t : Bool) → eqb x y ≡ t → (g : Bool) → good_configuration y ≡ g → cond g (all good_configuration l) false ≡ true → cond t true (any (eqb x) l) ≡ true → (all good_configuration l ≡ true → any (eqb x) l ≡ true → good_configuration x ≡ true) → good_configuration x ≡ true
-    go true et true eg h e rest = ap good_configuration (eqb-true x y et) ∙ eg
-    go false et true eg h e rest = rest h e
-    go t et false eg h e rest = absurd (false≢true h)
+good_among x (y ∷ l) h e = grind (arith, common_steps, good_among x l)
 
 good_listed : (x : ℕ) → good_configuration x ≡ true → any (eqb x) eight_bytes ≡ true
 good_listed x e =
@@ -84,12 +77,7 @@ good_listed x e =
 
 good_eight : (x : ℕ) → good_configuration x ≡ any (eqb x) eight_bytes
 unfolding good_configuration all
-good_eight x = go (good_configuration x) refl (any (eqb x) eight_bytes) refl
-  where
-    go : (g : Bool) → good_configuration x ≡ g → (t : Bool) → any (eqb x) eight_bytes ≡ t → g ≡ t
-    go true eg t et = sym (good_listed x eg) ∙ et
-    go false eg true et = sym eg ∙ good_among x eight_bytes refl et
-    go false eg false et = refl
+good_eight x = grind (arith, common_steps, good_listed x, good_among x eight_bytes refl)
 
 -- ---- the number of a write
 
@@ -101,27 +89,17 @@ number_of_lem x s free = simp free
 -- 8 comes from the byte
 number_eight : (x : ℕ) (s : Bridge) → write_number (0xD2 ∷ x ∷ []) s ≡ 8 → good_configuration x ≡ false
 unfolding write_number bytes_of taken_while_busy good_parameter
-number_eight x s = go (busy s) (good_configuration x)
-  where
-    go : (t g : Bool) → cond {A = ℕ} (cond t true false) 6 (cond g 0 8) ≡ 8 → g ≡ false
-    go true g e = absurd (omega arith)
-    go false true e = absurd (omega arith)
-    go false false e = refl
+number_eight x s e = grind (arith, common_steps)
 
 wrong_bad : (x : ℕ) → WrongByte x → good_configuration x ≡ false
-wrong_bad x h = go (good_configuration x) refl h
-  where
-    go : (g : Bool) → good_configuration x ≡ g → WrongByte x → g ≡ false
-    go true e (inl one) = absurd (omega (arith, (good_then x e).0, one))
-    go true e (inr other) = absurd (other (good_then x e).1)
-    go false e h = refl
+wrong_bad x h = grind (arith, common_steps, good_then x)
 
 bad_wrong : (x : ℕ) → good_configuration x ≡ false → WrongByte x
 bad_wrong x e = go (eqb (x / 2 % 2) 0) refl
   where
     go : (t : Bool) → eqb (x / 2 % 2) 0 ≡ t → WrongByte x
-    go true et = inr (λ sum. false≢true (sym e ∙ good_when x (eqb-true _ _ et) sum))
-    go false et = inl (omega (arith, eqb-false (x / 2 % 2) 0 et))
+    go true et = inr (λ sum. grind (arith, common_steps, good_when x))
+    go false et = inl (grind (arith, common_steps))
 
 -- the three bits are stored and read back
 low : (a p w : ℕ) → a ≤ 1 → p ≤ 1 → w ≤ 1 → let n = a + p * 4 + w * 8 in (((15 - n) * 16 + n) % 16 ≡ n) × (n % 16 ≡ n)

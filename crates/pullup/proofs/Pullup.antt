@@ -7,6 +7,7 @@ use mathlib.Core.Bool.{Bool, true, false, cond, ◌&&◌, false≢true}
 use mathlib.Core.List.{List, [], ◌∷◌}
 use Prim.Native.Nat.{ℕ, ◌+◌, ◌*◌, ◌/◌, ◌%◌, ◌≤◌}
 use native.Mathlib.Omega.{arith}
+use Rattle.std.proofs.lemmas.Grind.{common_steps}
 use borrow.Author.Tests.{eqb-true}
 use lib.Dec.{eqb}
 use lib.ListN.{length, get_or}
@@ -33,14 +34,6 @@ pick : {A : Type 0} (P : A → Type 0) (t : Bool) {x y : A} → (t ≡ true → 
 pick P true f g = f refl
 pick P false f g = g refl
 
-cond_and : (t u : Bool) → cond t u false ≡ (t && u)
-cond_and true u = refl
-cond_and false u = refl
-
-both : (t u : Bool) → cond t u false ≡ true → (t ≡ true) × (u ≡ true)
-both true u e = (refl, e)
-both false u e = absurd (false≢true e)
-
 -- ---- what is so of the registers
 
 record Fine (r : Registers) : Type 0 where
@@ -66,8 +59,8 @@ fine_configured : (x : ℕ) (r : Registers) → good_configuration x ≡ true �
 fine_configured x r good f =
     record {
       bits = (eqb (x % 2) 1, eqb (x / 4 % 2) 1, eqb (x / 8 % 2) 1, good_stored x good);
-      strong = λ e. ap (λ (n : ℕ). eqb n 1) (low_strong x) ∙ (both (is_strong x) r.pullup e).0;
-      idle = λ e. f.idle (both (is_strong x) r.pullup e).1;
+      strong = λ e. grind (arith, common_steps, low_strong x);
+      idle = λ e. f.idle (grind (arith, common_steps));
     }
 
 -- SPU out of three bits
@@ -99,11 +92,7 @@ fine_pended q r f =
 
 -- an accepted write has a good parameter
 done_good : (u h l g : Bool) → cond {A = ℕ} u 5 (cond h 6 (cond l (cond g 0 8) 7)) ≡ 0 → g ≡ true
-done_good true h l g e = absurd (omega arith)
-done_good false true l g e = absurd (omega arith)
-done_good false false false g e = absurd (omega arith)
-done_good false false true true e = refl
-done_good false false true false e = absurd (omega arith)
+done_good u h l g e = grind (arith, common_steps)
 
 parameter_good : (x : List ℕ) (s : Bridge) → write_number x s ≡ 0 → good_parameter (get_or x 0 0) (get_or x 1 0) ≡ true
 unfolding write_number
@@ -140,9 +129,7 @@ fine_finished : (t : StatusBits) (o : ℕ) (r : Registers) → Fine r → Fine (
 fine_finished t o r f = record { bits = f.bits; strong = go (switches_on r.pending) (is_strong r.configuration) refl; idle = λ _. refl }
   where
     go : (t u : Bool) → is_strong r.configuration ≡ u → cond t (cond u true r.pullup) r.pullup ≡ true → is_strong r.configuration ≡ true
-    go true true eu e = eu
-    go true false eu e = f.strong e
-    go false u eu e = f.strong e
+    go t u eu e = grind (arith, common_steps, f.strong)
 
 fine_time : (s : Bridge) → Fine s.registers → Fine (after_time s).registers
 unfolding after_time finished_of finished_reset finished_bit finished_write finished_read finished_triplet
@@ -204,16 +191,13 @@ module _ (s : Bridge) where
 
   under : (x : ℕ) → write_number (0xD2 ∷ x ∷ []) s ≡ 0 → is_on (after_write (0xD2 ∷ x ∷ []) s) ≡ (is_strong x && is_on s)
   unfolding accepted
-  under x e = ap is_on (after_write_done (0xD2 ∷ x ∷ []) s e) ∙ cond_and (is_strong x) (is_on s)
+  under x e =
+      ap is_on (after_write_done (0xD2 ∷ x ∷ []) s e) ∙ grind (arith, common_steps)
 
   -- a Device Reset is taken, busy or not
   reset_done : write_number (0xF0 ∷ []) s ≡ 0
   unfolding write_number bytes_of taken_while_busy good_parameter
-  reset_done = ap (λ (t : Bool). cond {A = ℕ} t 6 0) (go (busy s))
-    where
-      go : (t : Bool) → cond t false false ≡ false
-      go true = refl
-      go false = refl
+  reset_done = grind (arith, common_steps)
 
   reset_ends : is_on (after_write (0xF0 ∷ []) s) ≡ false
   unfolding accepted
@@ -222,21 +206,12 @@ module _ (s : Bridge) where
   module _ (f : Fine s.registers) where
     -- while a command is pending the pull-up is off
     pending_off : is_pending s.registers.pending ≡ true → is_on s ≡ false
-    pending_off e = go (is_on s) refl
-      where
-        go : (t : Bool) → is_on s ≡ t → t ≡ false
-        go true now = absurd (false≢true (sym (ap is_pending (f.idle now)) ∙ e))
-        go false off = refl
+    pending_off e = grind (arith, common_steps, f.idle)
 
     after_pending : (q : Pending) → s.registers.pending ≡ q → is_pending q ≡ true → pullup_after s.registers ≡ (switches_on q && spu_at s)
     after_pending q e h =
         ap₂ (λ (k : Pending) (t : Bool). cond (switches_on k) (cond (spu_at s) true t) t) e (pending_off (ap is_pending e ∙ h))
-        ∙ go (switches_on q) (spu_at s)
-      where
-        go : (t u : Bool) → cond t (cond u true false) false ≡ (t && u)
-        go true true = refl
-        go true false = refl
-        go false u = refl
+        ∙ grind (arith, common_steps)
 
     after_time_lem : is_on (after_time s) ≡ cond (busy s) (switches_on s.registers.pending && spu_at s) (is_on s)
     unfolding after_time finished_of finished_reset finished_bit finished_write finished_read finished_triplet

@@ -1,17 +1,18 @@
 -- Laws of the checksum behind a packet.
 --   sealed_split    a packet that is sealed is its front with the checksum of that behind
 --   sealed_true     a body with its checksum behind it is sealed
---   two_bytes       two bytes, low byte first, are a number exactly where each is its part of it
+--   no_seal         a packet of less than two bytes is not sealed
 use mathlib.Core.Path.{◌≡◌, refl, sym, ap, ap₂, subst, ◌∙◌}
 use mathlib.Core.Bool.{Bool, true, false, ◌&&◌, and-eq-true_iff}
 use mathlib.Core.List.{List, [], ◌∷◌, ◌++◌}
-use Prim.Native.Nat.{ℕ, suc, ◌+◌, ◌-◌, ◌*◌, ◌/◌, ◌%◌, ◌<◌}
+use Prim.Native.Nat.{ℕ, suc, ◌+◌, ◌-◌, ◌/◌, ◌%◌, ◌<◌}
 use native.Mathlib.Numerals.{add-one}
 use native.Mathlib.Omega.{arith}
-use borrow.Author.Tests.{eq-eqb, ne_eqb, eqb-true, eqb-false}
+use borrow.Author.Tests.{eq-eqb, eqb-true}
 use lib.Dec.{eqb}
 use lib.ListN.{length, get_or, take, drop, length-append, take-append-drop}
 use lib.Seq.{drop-cons, drop-length, take-append_seam, get_or-append_seam, get_or-append-add}
+use Rattle.checksum.specs.Register.{crc16_of, crc_from}
 use Rattle.packet.specs.Request.{inverted_of, seal_of}
 use Rattle.reading.specs.Reading.{is_sealed}
 
@@ -46,10 +47,12 @@ sealed_true s =
     let second : get_or p (length s + 1) 0 ≡ high = get_or-append-add s (seal_of s) 1 0 in
     simp (at, front, first, second, eq-eqb low low refl, eq-eqb high high refl)
 
-pub two_bytes : (x y s : ℕ) → x < 256 → eqb (x + y * 256) s ≡ (eqb x (s % 256) && eqb y (s / 256))
-two_bytes x y s h = by (eqb x (s % 256)) (eqb y (s / 256)) refl refl
+pub no_seal : (p : List ℕ) → length p < 2 → is_sealed p ≡ false
+unfolding is_sealed inverted_of crc16_of crc_from
+no_seal [] h = refl
+no_seal (x ∷ []) h = and_false (eqb x 255)
   where
-    by : (a b : Bool) → eqb x (s % 256) ≡ a → eqb y (s / 256) ≡ b → eqb (x + y * 256) s ≡ (a && b)
-    by true true p q = eq-eqb (x + y * 256) s (omega (arith, eqb-true x (s % 256) p, eqb-true y (s / 256) q))
-    by true false p q = ne_eqb (x + y * 256) s (λ e. eqb-false y (s / 256) q (omega arith))
-    by false b p q = ne_eqb (x + y * 256) s (λ e. eqb-false x (s % 256) p (omega arith))
+    and_false : (t : Bool) → (t && false) ≡ false
+    and_false true = refl
+    and_false false = refl
+no_seal (x ∷ y ∷ l) h = absurd (omega arith)

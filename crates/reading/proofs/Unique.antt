@@ -5,11 +5,19 @@ use Prim.Native.Nat.{ℕ}
 use Rattle.checksum.proofs.Unique.{OneAnswer, OneSeen}
 use Rattle.reading.proofs.read.Reads as read
 use Rattle.reading.proofs.data_of.Reads as data_of
-use Rattle.reading.proofs.Reading.number.Reads as number
-use Rattle.reading.proofs.Reading.place.Reads as place
+use Rattle.reading.proofs.number_in.Reads as number_in
+use Rattle.reading.proofs.place_in.Reads as place_in
+use Rattle.reading.proofs.Refusal.number.Reads as number
+use Rattle.reading.proofs.Refusal.place.Reads as place
 
 pub one_read : OneAnswer read.Post
 one_read κ a x y s t p q = p ∙ sym q
+
+pub one_number_in : OneAnswer number_in.Post
+one_number_in κ a x y s t p q = p ∙ sym q
+
+pub one_place_in : OneAnswer place_in.Post
+one_place_in κ a x y s t p q = p ∙ sym q
 
 pub one_number : OneAnswer number.Post
 one_number κ a x y s t p q = p ∙ sym q

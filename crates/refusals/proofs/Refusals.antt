@@ -1,26 +1,23 @@
 -- What the reader gives for a packet is what is wrong with it first of all.
 --   refusals    the statement, of every packet
-use mathlib.Core.Path.{◌≡◌, refl, sym, ap, subst, ◌∙◌}
-use mathlib.Core.Bool.{Bool, true, false, cond, not, ◌&&◌, ◌||◌, and-eq-true_iff, false≢true, true≢false}
+use Rattle.std.proofs.Common.{◌≡◌, ℕ, ◌+◌, ◌-◌, ◌*◌, ◌/◌, ◌%◌, ◌≤◌, Bool, true, false, cond, not, ◌&&◌, eqb, leb, length, get_or, take, Result, Ok, Err, refl, sym, ap, subst, ◌∙◌, arith}
+use Rattle.std.proofs.lemmas.Bool.{false≢true}
+use Rattle.std.proofs.lemmas.Bool.Decides.{nat_tests}
 use mathlib.Core.List.{List, [], ◌∷◌, Memᴰ}
-use Prim.Native.Nat.{ℕ, ◌+◌, ◌-◌, ◌*◌, ◌/◌, ◌%◌, ◌≤◌}
 use native.Mathlib.Nat.{le_antisymm}
-use native.Mathlib.Omega.{arith}
-use borrow.Author.Tests.{eqb-true, eqb-false, leb-true, leb-false, not-true, not-false, le-leb, lt-leb, eq-eqb, ne_eqb}
-use lib.Dec.{eqb, leb}
-use lib.ListN.{length, get_or, take}
-use Rattle.reading.specs.declared.Reading.{Reading}
-use Rattle.reading.specs.declared.Reading.TheVariants.{Parts, Refused}
-use Rattle.reading.specs.Reading.{code_of, address_byte, count_byte, behind_data, is_unknown, length_for, wanted_of, zero_count, low_bit, parts_in, form_of, is_sealed, checked, reading_of, reading_number, reading_place}
+use Rattle.reading.specs.declared.Parts.{Parts}
+use Rattle.reading.specs.declared.Refusal.{Refusal}
+use Rattle.reading.specs.declared.Refusal.TheVariants.{Code, Length, Count, Bit, Crc}
+use Rattle.reading.specs.Reading.{code_of, address_byte, count_byte, behind_data, is_unknown, length_for, wanted_of, zero_count, low_bit, parts_in, form_of, is_sealed, checked, reading_of, number_of, place_of, reading_number, reading_place, Refuses}
 use Rattle.reading.proofs.Seal.{sealed_split, sealed_true}
 use Rattle.reading.proofs.Taken.{whole, known, pick}
 use Rattle.refusals.specs.Refusals.{Unknown, Wants, short, write, read, write_read, Zero, third, behind, WrongBit, odd_write, even_read, odd_write_read, Wrong, code, long, count, bit, First, Right, Sealed, Refusals}
 
 -- an answer of the reader, and what it says of the packet
-data Says (p : List ℕ) : Reading → Type 0 where
-  wrong : (n k : ℕ) → First p n k → Says p (Refused n k)
-  spoilt : Right p → (Sealed p → ⊥) → Says p (Refused 14 0)
-  parts : (c a b l r : ℕ) → Right p → Sealed p → Says p (Parts c a b l r)
+data Says (p : List ℕ) : Result Parts Refusal → Type 0 where
+  wrong : (e : Refusal) → First p (number_of e) (place_of e) → Says p (Err e)
+  spoilt : Right p → (Sealed p → ⊥) → Says p (Err Crc)
+  parts : (x : Parts) → Right p → Sealed p → Says p (Ok x)
 
 module _ (p : List ℕ) where
   -- ---- the first byte
@@ -28,37 +25,30 @@ module _ (p : List ℕ) where
   unknown_of : is_unknown p ≡ true → Unknown p
   unfolding is_unknown
   unknown_of t =
-      let a = (and-eq-true_iff (leb 1 (length p)) (not (eqb (code_of p) 0x4B || eqb (code_of p) 0x87 || eqb (code_of p) 0x2D))).0 t in
-      let n = none (eqb (code_of p) 0x4B) (eqb (code_of p) 0x87) (eqb (code_of p) 0x2D) (not-true (eqb (code_of p) 0x4B || eqb (code_of p) 0x87 || eqb (code_of p) 0x2D) a.1) in
       record {
-        there = omega (arith, leb-true 1 (length p) a.0);
-        write = λ b. eqb-false (code_of p) 0x4B n.0 b.1;
-        read = λ b. eqb-false (code_of p) 0x87 n.1 b.1;
-        write_read = λ b. eqb-false (code_of p) 0x2D n.2 b.1;
+        there = grind (arith, nat_tests);
+        write = λ b. grind (arith, nat_tests);
+        read = λ b. grind (arith, nat_tests);
+        write_read = λ b. grind (arith, nat_tests);
       }
-    where
-      none : (x y z : Bool) → (x || y || z) ≡ false → (x ≡ false) × (y ≡ false) × (z ≡ false)
-      none true y z e = absurd (true≢false e)
-      none false true z e = absurd (true≢false e)
-      none false false true e = absurd (true≢false e)
-      none false false false e = (refl, refl, refl)
 
   unknown_not : is_unknown p ≡ false → Unknown p → ⊥
   unfolding is_unknown
   unknown_not f u =
       let h = u.there in
-      let t : is_unknown p ≡ true
-      = simp (le-leb 1 (length p) (omega arith), ne_eqb (code_of p) 0x4B (λ e. u.write (h, e)), ne_eqb (code_of p) 0x87 (λ e. u.read (h, e)), ne_eqb (code_of p) 0x2D (λ e. u.write_read (h, e))) in
-      false≢true (sym f ∙ t)
+      let w : code_of p ≡ 0x4B → ⊥ = λ e. u.write (h, e) in
+      let r : code_of p ≡ 0x87 → ⊥ = λ e. u.read (h, e) in
+      let b : code_of p ≡ 0x2D → ⊥ = λ e. u.write_read (h, e) in
+      grind (arith, nat_tests)
 
   -- ---- the length
 
   wants_is : {n : ℕ} → Wants p n → n ≡ wanted_of p
   unfolding wanted_of
-  wants_is (short h) = simp (lt-leb 3 (length p) h) (omega arith)
-  wants_is (write l c b) = simp (le-leb 3 (length p) (omega (arith, b.0)), c.1, b.1) (omega arith)
-  wants_is (read r c b) = simp (le-leb 3 (length p) (omega (arith, b.0)), c.1)
-  wants_is (write_read l c b) = simp (le-leb 3 (length p) (omega (arith, b.0)), c.1, b.1) (omega arith)
+  wants_is (short h) = grind (arith, nat_tests)
+  wants_is (write l c b) = grind (arith, nat_tests)
+  wants_is (read r c b) = grind (arith, nat_tests)
+  wants_is (write_read l c b) = grind (arith, nat_tests)
 
   wants_of : is_unknown p ≡ false → Wants p (wanted_of p)
   unfolding wanted_of
@@ -66,34 +56,23 @@ module _ (p : List ℕ) where
     where
       of_code : 3 ≤ length p → (x y : Bool) → eqb (code_of p) 0x4B ≡ x → eqb (code_of p) 0x87 ≡ y → Wants p (cond x (count_byte p + 5) (cond y 5 (count_byte p + 6)))
       of_code h true y a b =
-          subst (Wants p) (omega arith) (write (count_byte p) (omega arith, eqb-true (code_of p) 0x4B a) (omega arith, refl))
-      of_code h false true a b = read (count_byte p) (omega arith, eqb-true (code_of p) 0x87 b) (omega arith, refl)
+          subst (Wants p) (omega arith) (write (count_byte p) (omega arith, grind (arith, nat_tests)) (omega arith, refl))
+      of_code h false true a b = read (count_byte p) (omega arith, grind (arith, nat_tests)) (omega arith, refl)
       of_code h false false a b =
           subst (Wants p) (omega arith) (write_read (count_byte p) (omega arith, known p u (omega arith) a b) (omega arith, refl))
 
       of_length : (t : Bool) → leb 3 (length p) ≡ t → Wants p (cond t (length_for (code_of p) (count_byte p)) 5)
-      of_length true t = of_code (leb-true 3 (length p) t) (eqb (code_of p) 0x4B) (eqb (code_of p) 0x87) refl refl
-      of_length false t = short (leb-false 3 (length p) t)
+      of_length true t = of_code (grind (arith, nat_tests)) (eqb (code_of p) 0x4B) (eqb (code_of p) 0x87) refl refl
+      of_length false t = short (grind (arith, nat_tests))
 
   -- ---- the counts
 
   zero_is : {j : ℕ} → Zero p j → (zero_count p ≡ 0 → ⊥) × (zero_count p ≤ j)
   unfolding zero_count
-  zero_is (third b) =
-      let e : zero_count p ≡ 2 = simp (eq-eqb (count_byte p) 0 b.1) in
-      (λ z. omega arith, omega arith)
-  zero_is (behind l c b z) = of_first (eqb (count_byte p) 0) refl
-    where
-      last : behind_data p ≡ 0
-      last = ap (λ (k : ℕ). get_or p k 0) (omega (arith, b.1)) ∙ z.1
-
-      of_first : (t : Bool) → eqb (count_byte p) 0 ≡ t → (zero_count p ≡ 0 → ⊥) × (zero_count p ≤ 3 + l)
-      of_first true t =
-          let e : zero_count p ≡ 2 = simp (t) in
-          (λ z. omega arith, omega arith)
-      of_first false t =
-          let e : zero_count p ≡ count_byte p + 3 = simp (t, c.1, eq-eqb (behind_data p) 0 last) in
-          (λ z. omega arith, omega (arith, b.1))
+  zero_is (third b) = (λ z. grind (arith, nat_tests), grind (arith, nat_tests))
+  zero_is (behind l c b z) =
+      let last : behind_data p ≡ 0 = ap (λ (k : ℕ). get_or p k 0) (omega (arith, b.1)) ∙ z.1 in
+      (λ n. grind (arith, nat_tests), grind (arith, nat_tests))
 
   zero_of : length p ≡ wanted_of p → (zero_count p ≡ 0 → ⊥) → Zero p (zero_count p)
   unfolding zero_count
@@ -103,12 +82,13 @@ module _ (p : List ℕ) where
       room c = (whole p l).1 ∙ ap (λ (x : ℕ). length_for x (count_byte p)) c
 
       by : (x y z : Bool) → eqb (count_byte p) 0 ≡ x → eqb (code_of p) 0x2D ≡ y → eqb (behind_data p) 0 ≡ z → (cond x 2 (cond (y && z) (count_byte p + 3) 0) ≡ 0 → ⊥) → Zero p (cond x 2 (cond (y && z) (count_byte p + 3) 0))
-      by true y z a b c n = third (omega (arith, (whole p l).0), eqb-true (count_byte p) 0 a)
+      by true y z a b c n = third (omega (arith, (whole p l).0), grind (arith, nat_tests))
       by false true true a b c n =
-          let d = eqb-true (code_of p) 0x2D b in
+          let d : code_of p ≡ 0x2D = grind (arith, nat_tests) in
+          let e : behind_data p ≡ 0 = grind (arith, nat_tests) in
           let at : 3 + count_byte p ≡ count_byte p + 3 = omega arith in
           subst (Zero p) at
-          (behind (count_byte p) (omega (arith, (whole p l).0), d) (omega (arith, (whole p l).0), refl) (omega (arith, room d), ap (λ (k : ℕ). get_or p k 0) at ∙ eqb-true (behind_data p) 0 c))
+          (behind (count_byte p) (omega (arith, (whole p l).0), d) (omega (arith, (whole p l).0), refl) (omega (arith, room d), ap (λ (k : ℕ). get_or p k 0) at ∙ e))
       by false true false a b c n = absurd (n refl)
       by false false z a b c n = absurd (n refl)
 
@@ -129,10 +109,10 @@ module _ (p : List ℕ) where
 
       by : (x y : Bool) → eqb (code_of p) 0x4B ≡ x → eqb (code_of p) 0x87 ≡ y → WrongBit p
       by true y a b =
-          let c = eqb-true (code_of p) 0x4B a in
+          let c : code_of p ≡ 0x4B = grind (arith, nat_tests) in
           odd_write (address_byte p / 2) (omega arith, c) (omega arith, odd c refl)
       by false true a b =
-          let c = eqb-true (code_of p) 0x87 b in
+          let c : code_of p ≡ 0x87 = grind (arith, nat_tests) in
           let n : address_byte p % 2 ≡ 1 → ⊥ = λ x. turned (x ∙ sym (ap low_bit c)) in
           even_read (address_byte p / 2) (omega arith, c) (omega arith, omega arith)
       by false false a b =
@@ -199,35 +179,26 @@ module _ (p : List ℕ) where
 
   -- ---- the answer
 
-  says_parts : (c a b l r : ℕ) → 3 ≤ length p → Right p → (t : Bool) → is_sealed p ≡ t → Says p (checked t (Parts c a b l r))
+  says_parts : (x : Parts) → 3 ≤ length p → Right p → (t : Bool) → is_sealed p ≡ t → Says p (checked t (Ok x))
   unfolding checked
-  says_parts c a b l r h x true s = parts c a b l r x (sealed_of h s)
-  says_parts c a b l r h x false s = spoilt x (sealed_not s)
-
-  says_form : is_unknown p ≡ false → length p ≡ wanted_of p → zero_count p ≡ 0 → address_byte p % 2 ≡ low_bit (code_of p) → Says p (checked (is_sealed p) (parts_in p))
-  unfolding parts_in
-  says_form u l z b =
-      let h = (whole p l).0 in
-      let r = right (unknown_not u) l z b in
-      pick (λ (x : Reading). Says p (checked (is_sealed p) x)) (eqb (code_of p) 0x4B) _ _ (λ t. says_parts _ _ _ _ _ h r (is_sealed p) refl)
-      (λ n. pick (λ (x : Reading). Says p (checked (is_sealed p) x)) (eqb (code_of p) 0x87) _ _ (λ t. says_parts _ _ _ _ _ h r (is_sealed p) refl)
-      (λ m. says_parts _ _ _ _ _ h r (is_sealed p) refl))
+  says_parts x h r true s = parts x r (sealed_of h s)
+  says_parts x h r false s = spoilt r (sealed_not s)
 
   says : Says p (reading_of p)
   unfolding reading_of form_of checked
   says =
-      let P : Reading → Type 0 = λ x. Says p (checked (is_sealed p) x) in
-      pick P (is_unknown p) _ _ (λ t. wrong 16 0 (first_code (unknown_of t)))
-      (λ u. pick P (not (eqb (length p) (wanted_of p))) _ _ (λ t. wrong 17 (wanted_of p) (first_long (unknown_not u) (wants_of u) (differ t)))
-      (λ l. pick P (not (eqb (zero_count p) 0)) _ _ (λ t. wrong 18 (zero_count p) (first_count (unknown_not u) (same l) (differ t)))
-      (λ z. pick P (not (eqb (address_byte p % 2) (low_bit (code_of p)))) _ _ (λ t. wrong 19 1 (first_bit (unknown_not u) (same l) (same z) (bit_of u (whole p (same l)).0 (differ t))))
-      (λ b. says_form u (same l) (same z) (same b)))))
+      let P : Result Parts Refusal → Type 0 = λ x. Says p (checked (is_sealed p) x) in
+      pick P (is_unknown p) _ _ (λ t. wrong Code (first_code (unknown_of t)))
+      (λ u. pick P (not (eqb (length p) (wanted_of p))) _ _ (λ t. wrong (Length (wanted_of p)) (first_long (unknown_not u) (wants_of u) (differ t)))
+      (λ l. pick P (not (eqb (zero_count p) 0)) _ _ (λ t. wrong (Count (zero_count p)) (first_count (unknown_not u) (same l) (differ t)))
+      (λ z. pick P (not (eqb (address_byte p % 2) (low_bit (code_of p)))) _ _ (λ t. wrong Bit (first_bit (unknown_not u) (same l) (same z) (bit_of u (whole p (same l)).0 (differ t))))
+      (λ b. says_parts (parts_in p) (whole p (same l)).0 (right (unknown_not u) (same l) (same z) (same b)) (is_sealed p) refl))))
     where
       same : {x y : ℕ} → not (eqb x y) ≡ false → x ≡ y
-      same {x} {y} t = eqb-true x y (not-false (eqb x y) t)
+      same {x} {y} t = grind (arith, nat_tests)
 
       differ : {x y : ℕ} → not (eqb x y) ≡ true → x ≡ y → ⊥
-      differ {x} {y} t = eqb-false x y (not-true (eqb x y) t)
+      differ {x} {y} t e = grind (arith, nat_tests)
 
   -- ---- the statement
 
@@ -238,69 +209,54 @@ module _ (p : List ℕ) where
         le_antisymm (f.front j (subst (λ (x : ℕ). Wrong p x j) (sym e) g.holds)) (g.front k (subst (λ (x : ℕ). Wrong p x k) e f.holds)),
       )
 
-  one_of : {r : Reading} → Says p r → Memᴰ (reading_number r) (0 ∷ 14 ∷ 16 ∷ 17 ∷ 18 ∷ 19 ∷ [])
-  one_of (wrong n k f) =
+  one_of : {r : Result Parts Refusal} → Says p r → Memᴰ (reading_number r) (0 ∷ 14 ∷ 16 ∷ 17 ∷ 18 ∷ 19 ∷ [])
+  one_of (wrong e f) =
       by_wrong (λ n k. Memᴰ n (0 ∷ 14 ∷ 16 ∷ 17 ∷ 18 ∷ 19 ∷ [])) (λ u. Memᴰ.tail (Memᴰ.tail (Memᴰ.head refl)))
       (λ n w h. Memᴰ.tail (Memᴰ.tail (Memᴰ.tail (Memᴰ.head refl))))
       (λ k z. Memᴰ.tail (Memᴰ.tail (Memᴰ.tail (Memᴰ.tail (Memᴰ.head refl)))))
-      (λ w. Memᴰ.tail (Memᴰ.tail (Memᴰ.tail (Memᴰ.tail (Memᴰ.tail (Memᴰ.head refl)))))) n k f.holds
+      (λ w. Memᴰ.tail (Memᴰ.tail (Memᴰ.tail (Memᴰ.tail (Memᴰ.tail (Memᴰ.head refl)))))) (number_of e) (place_of e) f.holds
   one_of (spoilt r s) = Memᴰ.tail (Memᴰ.head refl)
-  one_of (parts c a b l r h s) = Memᴰ.head refl
+  one_of (parts x h s) = Memᴰ.head refl
 
   -- a condition of the form has a number of 16 or above
   above : {n k : ℕ} → First p n k → 16 ≤ n
   above {n} {k} f =
       by_wrong (λ n k. 16 ≤ n) (λ w. omega arith) (λ n w h. omega arith) (λ k z. omega arith) (λ w. omega arith) n k f.holds
 
-  form_to : {r : Reading} {n k : ℕ} → Says p r → (n ≡ 14 → ⊥) → r ≡ Refused n k → First p n k
-  form_to {n = n} {k = k} (wrong m j f) other e =
-      let a : m ≡ n = cc in
-      let b : j ≡ k = cc in
-      subst (λ (x : ℕ). First p x k) a (subst (First p m) b f)
-  form_to {n = n} (spoilt h s) other e =
-      let a : 14 ≡ n = cc in
-      absurd (other (sym a))
-  form_to (parts c a b l r h s) other e =
-      let z : ◌≡◌ {A = ℕ} 0 1 = cc in
-      absurd (omega arith)
+  form_to : {r : Result Parts Refusal} {n k : ℕ} → Says p r → (n ≡ 14 → ⊥) → Refuses r n k → First p n k
+  form_to {k = k} (wrong e f) other h = subst (λ (x : ℕ). First p x k) h.0 (subst (First p (number_of e)) h.1 f)
+  form_to (spoilt r s) other h = absurd (other (sym h.0))
+  form_to (parts x r s) other h = absurd h
 
-  form_from : {r : Reading} {n k : ℕ} → Says p r → First p n k → r ≡ Refused n k
-  form_from {n = n} (wrong m j f) g =
-      let u = first_unique f g in
-      ap (λ (x : ℕ). Refused x j) u.0 ∙ ap (Refused n) u.1
-  form_from {n = n} {k = k} (spoilt h s) g = absurd (h n k g.holds)
-  form_from {n = n} {k = k} (parts c a b l r h s) g = absurd (h n k g.holds)
+  form_from : {r : Result Parts Refusal} {n k : ℕ} → Says p r → First p n k → Refuses r n k
+  form_from (wrong e f) g = first_unique f g
+  form_from {n = n} {k = k} (spoilt r s) g = absurd (r n k g.holds)
+  form_from {n = n} {k = k} (parts x r s) g = absurd (r n k g.holds)
 
-  crc_to : {r : Reading} {k : ℕ} → Says p r → r ≡ Refused 14 k → (k ≡ 0) × Right p × (Sealed p → ⊥)
-  crc_to (wrong m j f) e =
-      let a : m ≡ 14 = cc in
-      absurd (omega (arith, above f))
-  crc_to {k = k} (spoilt h s) e =
-      let a : k ≡ 0 = cc in
-      (a, h, s)
-  crc_to (parts c a b l r h s) e =
-      let z : ◌≡◌ {A = ℕ} 0 1 = cc in
-      absurd (omega arith)
+  crc_to : {r : Result Parts Refusal} {k : ℕ} → Says p r → Refuses r 14 k → (k ≡ 0) × Right p × (Sealed p → ⊥)
+  crc_to (wrong e f) h = absurd (omega (arith, above f, h.0))
+  crc_to (spoilt r s) h = (sym h.1, r, s)
+  crc_to (parts x r s) h = absurd h
 
-  crc_from : {r : Reading} {k : ℕ} → Says p r → (k ≡ 0) × Right p × (Sealed p → ⊥) → r ≡ Refused 14 k
-  crc_from (wrong m j f) g = absurd (g.1 m j f.holds)
-  crc_from (spoilt h s) g = ap (Refused 14) (sym g.0)
-  crc_from (parts c a b l r h s) g = absurd (g.2 s)
+  crc_from : {r : Result Parts Refusal} {k : ℕ} → Says p r → (k ≡ 0) × Right p × (Sealed p → ⊥) → Refuses r 14 k
+  crc_from (wrong e f) g = absurd (g.1 (number_of e) (place_of e) f.holds)
+  crc_from (spoilt r s) g = (refl, sym g.0)
+  crc_from (parts x r s) g = absurd (g.2 s)
 
-  accepted_to : {r : Reading} → Says p r → reading_number r ≡ 0 → Right p × Sealed p
-  accepted_to (wrong m j f) e = absurd (omega (arith, above f))
-  accepted_to (spoilt h s) e = absurd (omega arith)
-  accepted_to (parts c a b l r h s) e = (h, s)
+  accepted_to : {r : Result Parts Refusal} → Says p r → reading_number r ≡ 0 → Right p × Sealed p
+  accepted_to (wrong e f) z = absurd (omega (arith, above f))
+  accepted_to (spoilt r s) z = absurd (omega arith)
+  accepted_to (parts x r s) z = (r, s)
 
-  accepted_from : {r : Reading} → Says p r → Right p × Sealed p → reading_number r ≡ 0
-  accepted_from (wrong m j f) g = absurd (g.0 m j f.holds)
-  accepted_from (spoilt h s) g = absurd (s g.1)
-  accepted_from (parts c a b l r h s) g = refl
+  accepted_from : {r : Result Parts Refusal} → Says p r → Right p × Sealed p → reading_number r ≡ 0
+  accepted_from (wrong e f) g = absurd (g.0 (number_of e) (place_of e) f.holds)
+  accepted_from (spoilt r s) g = absurd (s g.1)
+  accepted_from (parts x r s) g = refl
 
-  placeless_of : {r : Reading} → Says p r → reading_number r ≡ 0 → reading_place r ≡ 0
-  placeless_of (wrong m j f) e = absurd (omega (arith, above f))
-  placeless_of (spoilt h s) e = refl
-  placeless_of (parts c a b l r h s) e = refl
+  placeless_of : {r : Result Parts Refusal} → Says p r → reading_number r ≡ 0 → reading_place r ≡ 0
+  placeless_of (wrong e f) z = absurd (omega (arith, above f))
+  placeless_of (spoilt r s) z = refl
+  placeless_of (parts x r s) z = refl
 
   pub refusals : Refusals p
   refusals =

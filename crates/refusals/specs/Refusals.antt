@@ -13,8 +13,7 @@
 use Rattle.std.specs.Prelude.{◌≡◌, ℕ, ◌+◌, ◌*◌, ◌<◌, ◌≤◌, length, get_or}
 use mathlib.Core.List.{List, [], ◌∷◌, ◌++◌, Memᴰ}
 use Rattle.packet.specs.Request.{seal_of}
-use Rattle.reading.specs.declared.Reading.TheVariants.{Refused}
-use Rattle.reading.specs.Reading.{reading_of, reading_number, reading_place}
+use Rattle.reading.specs.Reading.{reading_of, reading_number, reading_place, Refuses}
 
 abbrev pub Byte : List ℕ → ℕ → ℕ → Type 0
 Byte p k x = (k < length p) × (get_or p k 0 ≡ x)
@@ -72,9 +71,9 @@ pub record Refusals (p : List ℕ) : Type 0 where
   -- one of these comes, and since it is the number of one answer, no other
   pub one : Memᴰ (reading_number (reading_of p)) (0 ∷ 14 ∷ 16 ∷ 17 ∷ 18 ∷ 19 ∷ [])
   -- a number other than 14, with its place, exactly when its condition and none before it holds
-  pub form : (n k : ℕ) → (n ≡ 14 → ⊥) → Exactly (reading_of p ≡ Refused n k) (First p n k)
+  pub form : (n k : ℕ) → (n ≡ 14 → ⊥) → Exactly (Refuses (reading_of p) n k) (First p n k)
   -- 14, which has no place, exactly when the form is right and the CRC is not
-  pub crc : (k : ℕ) → Exactly (reading_of p ≡ Refused 14 k) ((k ≡ 0) × Right p × (Sealed p → ⊥))
+  pub crc : (k : ℕ) → Exactly (Refuses (reading_of p) 14 k) ((k ≡ 0) × Right p × (Sealed p → ⊥))
   -- accepted, which has no place either, exactly when both are right
   pub accepted : Exactly (reading_number (reading_of p) ≡ 0) (Right p × Sealed p)
   pub placeless : reading_number (reading_of p) ≡ 0 → reading_place (reading_of p) ≡ 0

@@ -7,6 +7,7 @@ use mathlib.Core.List.{[], ◌∷◌}
 use mathlib.Core.List.Memᴰ
 use mathlib.Core.Path.{◌≡◌, refl}
 use lib.Dec.{lit<}
+use Rattle.std.specs.Prelude.{None}
 use Rattle.checksum.specs.Register.{crc8_of, crc_from, entered, shifts, shifted, taps8, taps}
 use Rattle.identity.specs.Identity.{number_of, crc_right, family_of, refusal_of}
 use Rattle.probe.specs.Probe.{reaches, sends, sends_in, sends_at, took, took_in, took_at, reset, took_code, obeyed}
@@ -17,7 +18,6 @@ use Rattle.bridge.specs.Bridge.{finished_reset, finished_write, finished_triplet
 use Rattle.bridge.specs.Reached.{Reached}
 use Rattle.bridge.specs.Reached.Reached.{on}
 use Rattle.pass.specs.Pass.{direction, took_triplet, tripled, walked}
-use Rattle.pass.specs.declared.Conflict.TheVariants.{Nowhere}
 use Rattle.enumeration.specs.Order.{Among}
 use Rattle.paper.specs.Paper.{a, with_one}
 use Rattle.demand.proofs.Reached.{reached_reset, reached_byte}
@@ -28,7 +28,7 @@ pub presence_needed_lem : ((s : Bridge) → Reached s → (b : ℕ) (p : Pass) �
 unfolding passes_taken taken_from after_triplet walked tripled took_triplet direction command after_time finished_of finished_reset finished_write finished_triplet after_write write_number bytes_of taken_while_busy good_parameter accepted power_on bare present after_reset reset reaches level slot slots on_fitted fitted all
 presence_needed_lem h =
     true≢false
-    (h power_on on 1 (record { previous = 0; conflict = Nowhere; bridge = command (0xB4 ∷ []) (command (0xF0 ∷ []) power_on) }) (Memᴰ.head refl) 0 (lit< tt))
+    (h power_on on 1 (record { previous = 0; conflict = None; bridge = command (0xB4 ∷ []) (command (0xF0 ∷ []) power_on) }) (Memᴰ.head refl) 0 (lit< tt))
 
 pub search_needed_lem : ((s : Bridge) → Reached s → s.registers.status.ppd ≡ true → both_one (command (0x78 ∷ 0 ∷ []) s) ≡ false) → ⊥
 unfolding command after_time finished_of finished_reset finished_write finished_triplet after_write write_number bytes_of taken_while_busy good_parameter accepted power_on bare present after_reset reset reaches level slot slots on_fitted fitted all sends sends_in sends_at took took_in took_at took_code obeyed after_fitting after_fit fit_number place_number is_fitted ids_of any with_probe refusal_of crc_right family_of crc8_of crc_from entered shifts shifted taps8 taps number_of

@@ -12,6 +12,7 @@ use borrow.Author.Tests.{lt-ltb, le-ltb, ltb-true, eqb-true, eq-eqb}
 use lib.Dec.{eqb, leb, ltb, lit<, lit≤}
 use lib.ListN.{length, get_or, take, drop, replicate, length-append}
 use lib.Seq.{get_or_at}
+use Rattle.std.specs.Prelude.{Option, None}
 use Rattle.checksum.specs.Register.{crc8_of, crc_from, entered, shifts, shifted, taps8, taps}
 use Rattle.identity.specs.Identity.{number_of, bit_of, crc_right, family_of, refusal_of}
 use Rattle.probe.specs.declared.Condition.TheVariants.{Deaf, Selected}
@@ -26,10 +27,8 @@ use Rattle.bridge.specs.Reached.{Bytes, Reached}
 use Rattle.bridge.specs.Reached.Reached.{on, fit}
 use Rattle.pass.specs.Pass.{direction, noted, took_triplet, tripled, walked, begun, passed}
 use Rattle.pass.specs.Passes.{Result, absent, continued, searched, search}
-use Rattle.pass.specs.declared.Conflict.{Conflict}
-use Rattle.pass.specs.declared.Conflict.TheVariants.{Nowhere}
 use Rattle.pass.specs.declared.Walk.{Walk}
-use Rattle.search.specs.declared.Answer.TheVariants.{Refused}
+use Rattle.search.specs.Search.Answer.{Refused}
 use Rattle.search.specs.Search.{listed, answer_values, bytes_from, list_of, written}
 use Rattle.search.proofs.Call.{short, done}
 use Rattle.search.proofs.Bytes.{list_of_append}
@@ -68,12 +67,12 @@ ours = fewer (call_of search) Exactly (λ s n d. (outcome_with search s n d, ref
 
 -- ---- the rule of what is noted
 
-walked_by_lem : (n k i : ℕ) (q : Conflict) (w : Walk) → walked_by noted n k i q w ≡ walked n k i q w
+walked_by_lem : (n k i : ℕ) (q : Option ℕ) (w : Walk) → walked_by noted n k i q w ≡ walked n k i q w
 unfolding walked_by walked tripled_by tripled took_triplet
 walked_by_lem zero k i q w = refl
 walked_by_lem (suc n) k i q w = walked_by_lem n (suc k) i q (tripled_by noted i q k w)
 
-searched_by_lem : (n i : ℕ) (q : Conflict) (s : Bridge) → searched_by noted n i q s ≡ searched n i q s
+searched_by_lem : (n i : ℕ) (q : Option ℕ) (s : Bridge) → searched_by noted n i q s ≡ searched n i q s
 unfolding searched_by searched passed
 searched_by_lem zero i q s = refl
 searched_by_lem (suc n) i q s = go (walked_by noted 64 0 i q start) (walked_by_lem 64 0 i q start) (searched_by_lem n)
@@ -84,7 +83,7 @@ searched_by_lem (suc n) i q s = go (walked_by noted 64 0 i q start) (walked_by_l
     start : Walk
     start = begun (command (0xA5 ∷ 0xF0 ∷ []) r)
 
-    go : (w : Walk) → w ≡ walked 64 0 i q start → ((i : ℕ) (q : Conflict) (s : Bridge) → searched_by noted n i q s ≡ searched n i q s) → cond r.registers.status.ppd (continued w.conflict w (searched_by noted n w.id w.conflict w.bridge)) (absent r) ≡ searched (suc n) i q s
+    go : (w : Walk) → w ≡ walked 64 0 i q start → ((i : ℕ) (q : Option ℕ) (s : Bridge) → searched_by noted n i q s ≡ searched n i q s) → cond r.registers.status.ppd (continued w.conflict w (searched_by noted n w.id w.conflict w.bridge)) (absent r) ≡ searched (suc n) i q s
     go w e rest =
         ap (λ (t : Result). cond r.registers.status.ppd (continued w.conflict w t) (absent r)) (rest w.id w.conflict w.bridge)
         ∙ ap (λ (v : Walk). cond r.registers.status.ppd (continued v.conflict v (searched n v.id v.conflict v.bridge)) (absent r)) e
@@ -92,7 +91,7 @@ searched_by_lem (suc n) i q s = go (walked_by noted 64 0 i q start) (walked_by_l
 pub rules : (n : ℕ) (s : Bridge) → search_by noted n s ≡ search n s
 unfolding search_by search
 rules zero s = refl
-rules (suc n) s = searched_by_lem (suc n) 0 Nowhere (command (0xF0 ∷ []) s)
+rules (suc n) s = searched_by_lem (suc n) 0 None (command (0xF0 ∷ []) s)
 
 -- ---- the lines
 
@@ -312,7 +311,7 @@ twice : (r : Result) → length r.ids ≡ 1 → r.passes ≡ 1 → digit r.compl
 twice r i p q = go r.complete q ∙ length-append r.ids _ ∙ ap (λ (n : ℕ). n + 1) i
   where
     w : Walk
-    w = passed 0 Nowhere (command (0xB4 ∷ []) r.bridge)
+    w = passed 0 None (command (0xB4 ∷ []) r.bridge)
 
     more : Result
     more = record { ids = r.ids ++ w.id ∷ []; passes = suc r.passes; complete = true; bridge = w.bridge }

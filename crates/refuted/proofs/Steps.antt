@@ -5,7 +5,7 @@ use mathlib.Core.List.{List, [], ◌∷◌}
 use mathlib.Core.Path.{◌≡◌, refl, ap}
 use native.Mathlib.Omega.{arith}
 use lib.Dec.{lit<}
-use lib.ListN.{length, get_or}
+use lib.ListN.{get_or}
 use Rattle.checksum.specs.Register.{crc16_of, crc_from, entered, shifts, shifted, taps, taps16}
 use Rattle.line.specs.Line.{bare, fitted, all, level, slot, on_fitted}
 use Rattle.triplet_slots.specs.Triplet.{chosen}
@@ -16,9 +16,7 @@ use Rattle.bridge.specs.Bridge.{power_on, status_of, read_of, busy, bytes_of, go
 use Rattle.bridge.specs.Reached.{Bytes, Reached}
 use Rattle.bridge.specs.Reached.Reached.{on, write}
 use Rattle.packet.specs.Request.{Request, read, body_of, inverted_of, seal_of, packet_of}
-use Rattle.reading.specs.declared.Reading.{Reading}
-use Rattle.reading.specs.declared.Reading.TheVariants.{Refused}
-use Rattle.reading.specs.Reading.{is_unknown, wanted_of, zero_count, parts_in, form_of, is_sealed, checked, reading_of, reading_values}
+use Rattle.reading.specs.Reading.{is_unknown, wanted_of, zero_count, parts_in, form_of, is_sealed, checked, reading_of, Refuses}
 use Rattle.demand.proofs.Reached.{bytes_one, bytes_two}
 use Rattle.refuted.specs.Versions.{clears_rst, zero_after_ones, triplet_by, uninverted}
 
@@ -74,11 +72,9 @@ triplet d s = refl
 
 -- ---- packets: a read, address 20h, 2 bytes
 
-pub reader_refuses_lem : (f g : List ℕ → ℕ) → ((p : List ℕ) → reading_of p ≡ Refused (f p) (g p)) → ⊥
+pub reader_refuses_lem : (f g : List ℕ → ℕ) → ((p : List ℕ) → Refuses (reading_of p) (f p) (g p)) → ⊥
 unfolding reading_of checked form_of is_unknown wanted_of zero_count parts_in is_sealed inverted_of crc16_of crc_from entered shifts shifted taps16 taps
-reader_refuses_lem f g h =
-    let e : ◌≡◌ {A = ℕ} 5 0 = ap (λ (r : Reading). length (reading_values r)) (h (0x87 ∷ 0x41 ∷ 0x02 ∷ 0xFE ∷ 0x47 ∷ [])) in
-    omega arith
+reader_refuses_lem f g h = h (0x87 ∷ 0x41 ∷ 0x02 ∷ 0xFE ∷ 0x47 ∷ [])
 
 pub crc_plain_lem : ((q : Request) → uninverted q ≡ packet_of q) → ⊥
 unfolding packet_of body_of seal_of inverted_of crc16_of crc_from entered shifts shifted taps16 taps

@@ -12,8 +12,7 @@ use Rattle.bridge.specs.Reached.{Bytes, Reached}
 use Rattle.pass.specs.Pass.{noted}
 use Rattle.pass.specs.Passes.{search}
 use Rattle.packet.specs.Request.{Request, packet_of}
-use Rattle.reading.specs.declared.Reading.TheVariants.{Refused}
-use Rattle.reading.specs.Reading.{reading_of}
+use Rattle.reading.specs.Reading.{reading_of, Refuses}
 use Rattle.demand.specs.Demand.{Outcome, Done, bytes_listed, ResumesNone, Meets}
 use Rattle.demand.specs.Swaps.{fitted_at}
 use Rattle.enumeration.specs.Order.{Among}
@@ -29,7 +28,7 @@ pub record Refuted : Type 0 where
   -- "A search, step or packet reader that always refuses"
   pub search_refuses : (f : Bridge → ℕ → List ℕ → ℕ) → Meets (always_refuses f) → ⊥
   pub step_refuses : (f : List ℕ → Bridge → ℕ) → ((x : List ℕ) → Bytes x → (s : Bridge) → Reached s → write_number x s ≡ suc (f x s)) → ⊥
-  pub reader_refuses : (f g : List ℕ → ℕ) → ((p : List ℕ) → reading_of p ≡ Refused (f p) (g p)) → ⊥
+  pub reader_refuses : (f g : List ℕ → ℕ) → ((p : List ℕ) → Refuses (reading_of p) (f p) (g p)) → ⊥
   -- "A fixed list or fixed status byte"
   pub list_fixed : (l : ℕ → List ℕ) → Meets (call_of (fixed_list l)) → ⊥
   pub status_fixed : (v : ℕ) → ((s : Bridge) → Reached s → s.registers.pointer ≡ Status → read_of s ≡ v) → ⊥

@@ -14,17 +14,15 @@
 --   zero_after_ones        the bit of a triplet, 0 after levels 1,1
 --   triplet_by choose     the triplet with another rule of its bit
 --   uninverted q         the packet with its CRC-16 as the register has it
-use Rattle.std.specs.Prelude.{ℕ, zero, suc, ◌*◌, ◌/◌, ◌%◌, min, Bool, true, false, cond, ◌&&◌, List, [], ◌∷◌, ◌++◌, ◌≡◌, leb, ltb, length, take}
+use Rattle.std.specs.Prelude.{ℕ, zero, suc, ◌*◌, ◌/◌, ◌%◌, min, Bool, true, false, cond, ◌&&◌, List, [], ◌∷◌, ◌++◌, ◌≡◌, leb, ltb, length, take, Option, None, Some}
 use Rattle.checksum.specs.Register.{crc16_of}
 use Rattle.line.specs.Line.{level, slot, present, after_reset}
 use Rattle.bridge.specs.declared.Bridge.{Bridge}
 use Rattle.bridge.specs.Bridge.{speed_of, command, finished, with_levels}
-use Rattle.pass.specs.declared.Conflict.{Conflict}
-use Rattle.pass.specs.declared.Conflict.TheVariants.{Nowhere, At}
 use Rattle.pass.specs.declared.Walk.{Walk}
 use Rattle.pass.specs.Pass.{direction, triplet_byte, took_triplet, begun, passed}
 use Rattle.pass.specs.Passes.{Result, absent, exhausted, continued, search}
-use Rattle.search.specs.declared.Answer.TheVariants.{Refused}
+use Rattle.search.specs.Search.Answer.{Refused}
 use Rattle.search.specs.Search.{listed, written}
 use Rattle.packet.specs.Request.{Request, body_of}
 use Rattle.demand.specs.Demand.{Outcome, Search, ids_at}
@@ -86,19 +84,19 @@ sorted_as_numbers b s =
     record { ids = take b (ascending (ids_at s)); passes = r.passes; complete = r.complete; bridge = r.bridge }
 
 -- A search as document 01 has it, but for one rule: what is noted at a bit. With `noted` it is the search itself.
-module _ (note : Bool → Bool → Bool → ℕ → Conflict → Conflict) where
-  unfoldable pub tripled_by : ℕ → Conflict → ℕ → Walk → Walk
+module _ (note : Bool → Bool → Bool → ℕ → Option ℕ → Option ℕ) where
+  unfoldable pub tripled_by : ℕ → Option ℕ → ℕ → Walk → Walk
   tripled_by i c k w =
       let s = command (0x78 ∷ triplet_byte (direction i c k) ∷ []) w.bridge in
       let t = took_triplet k s w in
       let shown = s.registers.status in
       record { bridge = s; id = t.id; conflict = note shown.sbr shown.tsb shown.dir k w.conflict }
 
-  unfoldable pub walked_by : ℕ → ℕ → ℕ → Conflict → Walk → Walk
+  unfoldable pub walked_by : ℕ → ℕ → ℕ → Option ℕ → Walk → Walk
   walked_by zero k i c w = w
   walked_by (suc n) k i c w = walked_by n (suc k) i c (tripled_by i c k w)
 
-  unfoldable pub searched_by : ℕ → ℕ → Conflict → Bridge → Result
+  unfoldable pub searched_by : ℕ → ℕ → Option ℕ → Bridge → Result
   searched_by zero i c s = exhausted s
   searched_by (suc b) i c s =
       let r = command (0xB4 ∷ []) s in
@@ -109,11 +107,11 @@ module _ (note : Bool → Bool → Bool → ℕ → Conflict → Conflict) where
 
   unfoldable pub search_by : Finding
   search_by zero s = exhausted s
-  search_by (suc b) s = searched_by (suc b) 0 Nowhere (command (0xF0 ∷ []) s)
+  search_by (suc b) s = searched_by (suc b) 0 None (command (0xF0 ∷ []) s)
 
 -- Remembering a conflict where 1 was taken.
-abbrev pub any_conflict : Bool → Bool → Bool → ℕ → Conflict → Conflict
-any_conflict first second taken k c = cond first c (cond second c (At k))
+abbrev pub any_conflict : Bool → Bool → Bool → ℕ → Option ℕ → Option ℕ
+any_conflict first second taken k c = cond first c (cond second c (Some k))
 
 abbrev pub notes_one : Finding
 notes_one = search_by any_conflict
@@ -121,7 +119,7 @@ notes_one = search_by any_conflict
 -- One pass more after the last, which starts the list again: all is right but where the search is complete with a pass to spare.
 abbrev pub once_more : ℕ → Result → Result
 once_more b r =
-    let w = passed 0 Nowhere (command (0xB4 ∷ []) r.bridge) in
+    let w = passed 0 None (command (0xB4 ∷ []) r.bridge) in
     cond (r.complete && (ltb r.passes b && ltb 0 (length r.ids)))
     (record { ids = r.ids ++ w.id ∷ []; passes = suc r.passes; complete = true; bridge = w.bridge })
     r

@@ -4,78 +4,52 @@
 --   back            the reader's answer for the packet of a request within its limits
 --   numbered_back, values_back    that answer in document 01's number and values
 --   request_back    the request that this answer stands for in that packet is the very request, its data included
+--   fits_formed     the packet fits the buffer that it was formed in
 --   back_formed     the reader's answer for what forming leaves at the front of a buffer
 --   back_refused    a request that is refused
---   fits_formed     the packet fits the buffer that it was formed in
-use mathlib.Core.Path.{◌≡◌, refl, sym, ap, ap₂, ◌∙◌}
-use mathlib.Core.Bool.{Bool, true, false, cond, ◌&&◌, and-eq-true_iff}
-use mathlib.Core.List.{List, [], ◌∷◌, ◌++◌, append_assoc}
-use Prim.Native.Nat.{ℕ, ◌+◌, ◌*◌, ◌/◌, ◌%◌, ◌≤◌}
-use native.Mathlib.Omega.{arith}
-use borrow.Author.Tests.{eq-eqb, ne_eqb}
-use lib.Dec.{eqb}
-use lib.ListN.{length, get_or, take}
-use lib.Seq.{take-append_seam, get_or-append_seam}
-use Rattle.reading.specs.declared.Reading.{Reading}
-use Rattle.reading.specs.declared.Reading.TheVariants.{Refused}
+use Rattle.std.proofs.Common.{◌≡◌, ℕ, ◌+◌, ◌*◌, ◌/◌, ◌%◌, ◌≤◌, Bool, true, false, cond, ◌&&◌, eqb, List, [], ◌∷◌, ◌++◌, length, get_or, take, Result, Ok, Err, refl, sym, ap, ap₂, ◌∙◌, append_assoc, arith}
+use Rattle.std.proofs.lemmas.Bool.Decides.{nat_tests}
+use lib.Seq.{take-append_seam, get_or-append_seam, length-take-le}
 use Rattle.packet.specs.Request.{Request, write, read, write_read, body_of, seal_of, packet_of}
+use Rattle.forming.specs.declared.Refusal as forming
+use Rattle.forming.specs.declared.Refusal.TheVariants.{Limits, Buffer}
+use Rattle.forming.specs.Buffer.{over}
+use Rattle.forming.specs.Forming as forming_specs
 use Rattle.forming.specs.Forming.{good_address, good_count, in_limits, form_number, formed}
+use Rattle.forming.proofs.Buffer.{take_over}
+use Rattle.forming.proofs.Forming.{length_write, length_read, length_write_read}
+use Rattle.reading.specs.declared.Parts.{Parts}
+use Rattle.reading.specs.declared.Refusal as reading
 use Rattle.reading.specs.Reading.{parts_in, form_of, checked, reading_of, reading_number, reading_values, parts_of, request_in}
 use Rattle.reading.proofs.Seal.{sealed_true}
 use Rattle.reading.proofs.Taken.{form_known}
-use Rattle.forming.specs.Buffer.{over}
-use Rattle.forming.proofs.Limits.{count_of, good_of, room_of}
-use Rattle.forming.proofs.Buffer.{take_over}
+use Rattle.roundtrip.specs.declared.Refusal.TheVariants.{Forming}
 use Rattle.roundtrip.specs.RoundTrip.{read_back}
-use Rattle.forming.proofs.Forming.{length_write, length_read, length_write_read}
 
 -- ---- the length
 
 pub longest : (q : Request) → in_limits q ≡ true → length (packet_of q) ≤ 261
 unfolding in_limits
-longest (write a s) g =
-    omega (arith, length_write a s, (count_of (length s) ((and-eq-true_iff (good_address a) (good_count (length s))).0 g).1).1)
-longest (read a r) g = omega (arith, length_read a r)
-longest (write_read a s r) g =
-    let t : Bool = good_address a && good_count (length s) in
-    let f : t ≡ true = ((and-eq-true_iff t (good_count r)).0 g).0 in
-    omega (arith, length_write_read a s r, (count_of (length s) ((and-eq-true_iff (good_address a) (good_count (length s))).0 f).1).1)
+longest (write a s) g = let n = length_write a s in grind (arith, nat_tests)
+longest (read a r) g = let n = length_read a r in grind (arith, nat_tests)
+longest (write_read a s r) g = let n = length_write_read a s r in grind (arith, nat_tests)
 
 pub longest_is : (a : ℕ) (s : List ℕ) (r : ℕ) → length s ≡ 255 → length (packet_of (write_read a s r)) ≡ 261
 longest_is a s r e = omega (arith, length_write_read a s r)
 
 -- ---- the form
 
--- an even address byte
-even : (a : ℕ) → eqb (a * 2 % 2) 0 ≡ true
-even a = eq-eqb (a * 2 % 2) 0 (omega arith)
-
-odd : (a : ℕ) → eqb ((a * 2 + 1) % 2) 1 ≡ true
-odd a = eq-eqb ((a * 2 + 1) % 2) 1 (omega arith)
-
-half : (a : ℕ) → a * 2 / 2 ≡ a
-half a = omega arith
-
-half_odd : (a : ℕ) → (a * 2 + 1) / 2 ≡ a
-half_odd a = omega arith
-
--- a count within its limits is not zero
-some : (n : ℕ) → good_count n ≡ true → eqb n 0 ≡ false
-some n g = ne_eqb n 0 (λ e. omega (arith, (count_of n g).0))
-
-form_write : (a : ℕ) (s : List ℕ) → good_count (length s) ≡ true → form_of (packet_of (write a s)) ≡ parts_of (write a s)
+form_write : (a : ℕ) (s : List ℕ) → good_count (length s) ≡ true → form_of (packet_of (write a s)) ≡ Ok (parts_of (write a s))
 unfolding parts_in parts_of packet_of body_of
 form_write a s g =
     let n = length_write a s in
-    form_known (packet_of (write a s)) 0x4B (omega arith) refl refl
-    ∙ simp (eq-eqb _ _ n, some (length s) g, even a, half a)
+    form_known (packet_of (write a s)) 0x4B (omega arith) refl refl ∙ grind (arith, nat_tests)
 
-form_read : (a r : ℕ) → good_count r ≡ true → form_of (packet_of (read a r)) ≡ parts_of (read a r)
+form_read : (a r : ℕ) → good_count r ≡ true → form_of (packet_of (read a r)) ≡ Ok (parts_of (read a r))
 unfolding parts_in parts_of packet_of body_of
 form_read a r g =
     let n = length_read a r in
-    form_known (packet_of (read a r)) 0x87 (omega arith) refl refl
-    ∙ simp (eq-eqb _ _ n, some r g, odd a, half_odd a)
+    form_known (packet_of (read a r)) 0x87 (omega arith) refl refl ∙ grind (arith, nat_tests)
 
 -- R stands behind the data
 last_count : (a : ℕ) (s : List ℕ) (r : ℕ) → get_or (packet_of (write_read a s r)) (length s + 3) 0 ≡ r
@@ -87,49 +61,34 @@ last_count a s r =
     ap (λ (k : ℕ). get_or ((h ++ (r ∷ [])) ++ t) k 0) at ∙ ap (λ (l : List ℕ). get_or l (length h) 0) (append_assoc h (r ∷ []) t)
     ∙ get_or-append_seam h r t 0
 
-form_write_read : (a : ℕ) (s : List ℕ) (r : ℕ) → good_count (length s) ≡ true → good_count r ≡ true → form_of (packet_of (write_read a s r)) ≡ parts_of (write_read a s r)
+form_write_read : (a : ℕ) (s : List ℕ) (r : ℕ) → good_count (length s) ≡ true → good_count r ≡ true → form_of (packet_of (write_read a s r)) ≡ Ok (parts_of (write_read a s r))
 unfolding parts_in parts_of packet_of body_of
 form_write_read a s r g f =
     let n = length_write_read a s r in
-    form_known (packet_of (write_read a s r)) 0x2D (omega arith) refl refl
-    ∙ simp (eq-eqb _ _ n, some (length s) g, last_count a s r, some r f, even a, half a)
+    let last = last_count a s r in
+    form_known (packet_of (write_read a s r)) 0x2D (omega arith) refl refl ∙ grind (arith, nat_tests)
 
-form_of_lem : (q : Request) → in_limits q ≡ true → form_of (packet_of q) ≡ parts_of q
+form_of_lem : (q : Request) → in_limits q ≡ true → form_of (packet_of q) ≡ Ok (parts_of q)
 unfolding in_limits
-form_of_lem (write a s) g = form_write a s ((and-eq-true_iff (good_address a) (good_count (length s))).0 g).1
-form_of_lem (read a r) g = form_read a r ((and-eq-true_iff (good_address a) (good_count r)).0 g).1
-form_of_lem (write_read a s r) g =
-    let t : Bool = good_address a && good_count (length s) in
-    form_write_read a s r ((and-eq-true_iff (good_address a) (good_count (length s))).0 ((and-eq-true_iff t (good_count r)).0 g).0).1
-    ((and-eq-true_iff t (good_count r)).0 g).1
+form_of_lem (write a s) g = form_write a s (grind (arith, nat_tests))
+form_of_lem (read a r) g = form_read a r (grind (arith, nat_tests))
+form_of_lem (write_read a s r) g = form_write_read a s r (grind (arith, nat_tests)) (grind (arith, nat_tests))
 
 -- ---- the answer
 
-checked_parts : (q : Request) → checked true (parts_of q) ≡ parts_of q
-unfolding checked parts_of
-checked_parts (write a s) = refl
-checked_parts (read a r) = refl
-checked_parts (write_read a s r) = refl
-
-pub back : (q : Request) → in_limits q ≡ true → reading_of (packet_of q) ≡ parts_of q
-unfolding reading_of packet_of
-back q g = ap₂ checked (sealed_true (body_of q)) (form_of_lem q g) ∙ checked_parts q
+pub back : (q : Request) → in_limits q ≡ true → reading_of (packet_of q) ≡ Ok (parts_of q)
+unfolding reading_of checked packet_of
+back q g = ap₂ checked (sealed_true (body_of q)) (form_of_lem q g)
 
 -- The answer in numbers: 0, and for each form its values.
 pub numbered_back : (q : Request) → in_limits q ≡ true → reading_number (reading_of (packet_of q)) ≡ 0
-unfolding parts_of
-numbered_back q g = ap reading_number (back q g) ∙ of_parts q
-  where
-    of_parts : (p : Request) → reading_number (parts_of p) ≡ 0
-    of_parts (write a s) = refl
-    of_parts (read a r) = refl
-    of_parts (write_read a s r) = refl
+numbered_back q g = ap reading_number (back q g)
 
-pub values_back : (q : Request) → in_limits q ≡ true → reading_values (reading_of (packet_of q)) ≡ reading_values (parts_of q)
+pub values_back : (q : Request) → in_limits q ≡ true → reading_values (reading_of (packet_of q)) ≡ reading_values (Ok (parts_of q))
 values_back q g = ap reading_values (back q g)
 
 -- the data lies in the packet where the parts say
-request_parts : (q : Request) → request_in (parts_of q) (packet_of q) ≡ q
+request_parts : (q : Request) → request_in (Ok (parts_of q)) (packet_of q) ≡ q
 unfolding request_in parts_of packet_of body_of
 request_parts (write a s) = ap (write a) (take-append_seam s (seal_of (body_of (write a s))))
 request_parts (read a r) = refl
@@ -139,29 +98,38 @@ request_parts (write_read a s r) =
     (ap (take (length s)) (append_assoc s (r ∷ []) t) ∙ take-append_seam s (r ∷ t))
 
 pub request_back : (q : Request) → in_limits q ≡ true → request_in (reading_of (packet_of q)) (packet_of q) ≡ q
-request_back q g = ap (λ (x : Reading). request_in x (packet_of q)) (back q g) ∙ request_parts q
+request_back q g = ap (λ (x : Result Parts reading.Refusal). request_in x (packet_of q)) (back q g) ∙ request_parts q
 
 -- ---- what forming leaves in a buffer
 
-formed_is : (q : Request) (d : List ℕ) → form_number q d ≡ 0 → formed q d ≡ over (packet_of q) d
-unfolding formed
-formed_is q d z = ap (λ (t : Bool). cond t (over (packet_of q) d) d) (eq-eqb (form_number q d) 0 z)
-
-pub fits_formed : (q : Request) (d : List ℕ) → form_number q d ≡ 0 → length (packet_of q) ≤ length d
+pub fits_formed : (q : Request) (d : List ℕ) → 0 ≡ form_number q d → length (packet_of q) ≤ length d
 unfolding form_number
-fits_formed q d z = room_of (in_limits q) (length (packet_of q)) (length d) z
+fits_formed q d z = grind (arith, nat_tests)
 
-pub back_formed : (q : Request) (d : List ℕ) (n : ℕ) → length (packet_of q) ≡ n → form_number q d ≡ 0 → reading_of (take n (formed q d)) ≡ read_back q d
-unfolding read_back form_number
+pub back_formed : (q : Request) (d : List ℕ) (n : ℕ) → length (packet_of q) ≡ n → 0 ≡ form_number q d → reading_of (take n (formed q d)) ≡ Ok (parts_of q)
+unfolding form_number formed
 back_formed q d n h z =
-    ap (λ (l : List ℕ). reading_of (take n l)) (formed_is q d z)
-    ∙ ap (λ (k : ℕ). reading_of (take k (over (packet_of q) d))) (sym h)
-    ∙ ap reading_of (take_over (packet_of q) d)
-    ∙ back q (good_of (in_limits q) (length (packet_of q)) (length d) z)
-    ∙ sym (ap (λ (t : Bool). cond t (parts_of q) (Refused (form_number q d) 0)) (eq-eqb (form_number q d) 0 z))
+    let good : in_limits q ≡ true = grind (arith, nat_tests) in
+    let is : formed q d ≡ over (packet_of q) d = grind (arith, nat_tests) in
+    ap₂ (λ (k : ℕ) (l : List ℕ). reading_of (take k l)) (sym h) is ∙ ap reading_of (take_over (packet_of q) d) ∙ back q good
 
-pub back_refused : (q : Request) (d : List ℕ) (n : ℕ) → n ≡ form_number q d → (n ≡ 0 → ⊥) → Refused n 0 ≡ read_back q d
+pub read_back_formed : (q : Request) (d : List ℕ) → 0 ≡ form_number q d → read_back q d ≡ Ok (parts_of q)
 unfolding read_back
-back_refused q d n e h =
-    ap (λ (k : ℕ). Refused k 0) e
-    ∙ sym (ap (λ (t : Bool). cond t (parts_of q) (Refused (form_number q d) 0)) (ne_eqb (form_number q d) 0 (λ z. h (e ∙ z))))
+read_back_formed q d z = grind (arith, nat_tests)
+
+pub back_refused : (q : Request) (d : List ℕ) (e : forming.Refusal) → forming_specs.number_of e ≡ form_number q d → Err (Forming e) ≡ read_back q d
+unfolding read_back
+back_refused q d Limits n = grind (arith, nat_tests)
+back_refused q d Buffer n = grind (arith, nat_tests)
+
+pub back_write : (a : ℕ) (s d : List ℕ) → 0 ≡ form_number (write a s) d → reading_of (take (length s + 5) (formed (write a s) d)) ≡ Ok (parts_of (write a s))
+back_write a s d z = back_formed (write a s) d (length s + 5) (length_write a s) z
+
+pub back_read : (a r : ℕ) (d : List ℕ) → 0 ≡ form_number (read a r) d → reading_of (take 5 (formed (read a r) d)) ≡ Ok (parts_of (read a r))
+back_read a r d z = back_formed (read a r) d 5 (length_read a r) z
+
+pub back_write_read : (a : ℕ) (s : List ℕ) (r : ℕ) (d : List ℕ) → 0 ≡ form_number (write_read a s r) d → reading_of (take (length s + 6) (formed (write_read a s r) d)) ≡ Ok (parts_of (write_read a s r))
+back_write_read a s r d z = back_formed (write_read a s r) d (length s + 6) (length_write_read a s r) z
+
+-- what reading back needs
+pub ruleset backs = (fits_formed, length_write, length_read, length_write_read, length-take-le, back_write, back_read, back_write_read, read_back_formed)

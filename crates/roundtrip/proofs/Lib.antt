@@ -1,3 +1,3 @@
-pub mod Back
 pub mod Again
+pub mod Back
 pub mod Unique

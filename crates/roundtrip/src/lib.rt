@@ -9,97 +9,113 @@
 
 ghost use Rattle.std.specs.Prelude.{◌≡◌};
 ghost use Rattle.packet.specs.Request.{write, read, write_read};
-ghost use Rattle.forming.specs.Forming.{formed};
-ghost use Rattle.roundtrip.specs.RoundTrip.{read_back, again_number, again_place, formed_again};
+ghost use Rattle.forming.specs.Forming.{form_number, formed};
+ghost use Rattle.forming.specs.Forming as forming_specs;
+ghost use Rattle.reading.specs.Reading.{request_for};
+ghost use Rattle.roundtrip.specs.declared.Refusal.TheVariants.{Forming, Reading};
+ghost use Rattle.roundtrip.specs.RoundTrip.{number_of, place_of, number_in, place_in, read_back, again_number, again_place, formed_again};
 
-use reading::Reading;
+use reading::Parts;
 
-// A number, and its place, which is 0 where the number has none.
-#[derive(Clone, Copy)]
-pub struct Answer {
-    pub number: u8,
-    pub place: u16,
+// What was refused: the request, or the packet.
+#[derive(Clone, Copy, PartialEq, Eq)]
+pub enum Refusal {
+    Forming(forming::Refusal),
+    Reading(reading::Refusal),
 }
 
-pub fn read_back_write(address: u32, data: &[u8], buffer: &mut [u8]) -> Reading
+impl From<forming::Refusal> for Refusal {
+    ghost from_gives = { λ e r. r ≡ Forming e };
+
+    fn from(refusal: forming::Refusal) -> Refusal {
+        Refusal::Forming(refusal)
+    }
+}
+
+impl From<reading::Refusal> for Refusal {
+    ghost from_gives = { λ e r. r ≡ Reading e };
+
+    fn from(refusal: reading::Refusal) -> Refusal {
+        Refusal::Reading(refusal)
+    }
+}
+
+impl Refusal {
+    // The documents' number.
+    pub fn number(self) -> u8
+        ensures { result ≡ number_of self }
+    {
+        match self {
+            Refusal::Forming(refusal) => refusal.number(),
+            Refusal::Reading(refusal) => refusal.number(),
+        }
+    }
+
+    // Its place, which is 0 where the number has none.
+    pub fn place(self) -> u16
+        ensures { result ≡ place_of self }
+    {
+        match self {
+            Refusal::Forming(_) => 0,
+            Refusal::Reading(refusal) => refusal.place(),
+        }
+    }
+}
+
+// As it is: each is two calls with the arguments of forming; one for the three would take an enum of requests, which forming has not.
+#[tactic(auto, using(crate::proofs::Back::backs))]
+pub fn read_back_write(address: u32, data: &[u8], buffer: &mut [u8]) -> Result<Parts, Refusal>
     ensures value { result ≡ read_back (write address «data».now) buffer.old }
     ensures buffer_after { buffer.new ≡ formed (write address «data».now) buffer.old }
 {
-    let number = forming::form_write(address, data, buffer);
-    if number != 0 {
-        return Reading::Refused {
-            number,
-            place: reading::NO_PLACE,
-        };
-    }
-    let end = data.len() + 5;
-    reading::read(&buffer[..end])
+    forming::form_write(address, data, buffer)?;
+    Ok(reading::read(&buffer[..data.len() + 5])?)
 }
 
-pub fn read_back_read(address: u32, count: u32, buffer: &mut [u8]) -> Reading
+#[tactic(auto, using(crate::proofs::Back::backs))]
+pub fn read_back_read(address: u32, count: u32, buffer: &mut [u8]) -> Result<Parts, Refusal>
     ensures value { result ≡ read_back (read address count) buffer.old }
     ensures buffer_after { buffer.new ≡ formed (read address count) buffer.old }
 {
-    let number = forming::form_read(address, count, buffer);
-    if number != 0 {
-        return Reading::Refused {
-            number,
-            place: reading::NO_PLACE,
-        };
-    }
-    reading::read(&buffer[..5])
+    forming::form_read(address, count, buffer)?;
+    Ok(reading::read(&buffer[..5])?)
 }
 
-pub fn read_back_write_read(address: u32, data: &[u8], count: u32, buffer: &mut [u8]) -> Reading
+#[tactic(auto, using(crate::proofs::Back::backs))]
+pub fn read_back_write_read(
+    address: u32,
+    data: &[u8],
+    count: u32,
+    buffer: &mut [u8],
+) -> Result<Parts, Refusal>
     ensures value { result ≡ read_back (write_read address «data».now count) buffer.old }
     ensures buffer_after { buffer.new ≡ formed (write_read address «data».now count) buffer.old }
 {
-    let number = forming::form_write_read(address, data, count, buffer);
-    if number != 0 {
-        return Reading::Refused {
-            number,
-            place: reading::NO_PLACE,
-        };
-    }
-    let end = data.len() + 6;
-    reading::read(&buffer[..end])
+    forming::form_write_read(address, data, count, buffer)?;
+    Ok(reading::read(&buffer[..data.len() + 6])?)
 }
 
-fn placeless(number: u8) -> Answer
-    ensures { (result.number ≡ number) × (result.place ≡ 0) }
+// Forms the request of the parts and their data.
+fn form(parts: Parts, data: &[u8], buffer: &mut [u8]) -> Result<(), forming::Refusal>
+    ensures value { forming_specs.number_in result ≡ form_number (request_for parts «data».now) buffer.old }
+    ensures buffer_after { buffer.new ≡ formed (request_for parts «data».now) buffer.old }
 {
-    Answer {
-        number,
-        place: reading::NO_PLACE,
+    let address = u32::from(parts.address);
+    let count = u32::from(parts.count);
+    match parts.code {
+        packet::WRITE => forming::form_write(address, data, buffer),
+        packet::READ => forming::form_read(address, count, buffer),
+        _ => forming::form_write_read(address, data, count, buffer),
     }
 }
 
 // Forms the parts of a packet again; a packet that is not accepted hands its refusal on.
-pub fn form_again(packet: &[u8], buffer: &mut [u8]) -> Answer
-    ensures number_value { result.number ≡ again_number packet.now buffer.old }
-    ensures place_value { result.place ≡ again_place packet.now }
+pub fn form_again(packet: &[u8], buffer: &mut [u8]) -> Result<(), Refusal>
+    ensures number_value { number_in result ≡ again_number packet.now buffer.old }
+    ensures place_value { place_in result ≡ again_place packet.now }
     ensures buffer_after { buffer.new ≡ formed_again packet.now buffer.old }
 {
-    let reading = reading::read(packet);
-    let Reading::Parts {
-        code,
-        address,
-        start: _,
-        len: _,
-        count,
-    } = reading
-    else {
-        return Answer {
-            number: reading.number(),
-            place: reading.place(),
-        };
-    };
-    let data = reading::data_of(packet);
-    if code == packet::WRITE {
-        return placeless(forming::form_write(address as u32, data, buffer));
-    }
-    if code == packet::READ {
-        return placeless(forming::form_read(address as u32, count as u32, buffer));
-    }
-    placeless(forming::form_write_read(address as u32, data, count as u32, buffer))
+    let parts = reading::read(packet)?;
+    form(parts, reading::data_of(packet), buffer)?;
+    Ok(())
 }

@@ -1,28 +1,22 @@
 -- Events and the place behind them.
---   kind_at_piece, length_at_piece    the pieces that are an event's kind and a write's byte count
---   kind_at_lt, length_at_lt          there are four kinds, and a write has at most three bytes
---   size_at_write, _fit, _other       how many bits an event of each kind takes
---   size_at_low, size_at_high         an event takes 2 to 66 bits
+--   kind_at_lt, length_at_lt          two bits make a number below 4
+--   event_is                          the event at a place, by the four bits of its head
+--   write_lt                          a write has at most three bytes
+--   size_of_event                     how many bits the event at a place takes
+--   size_at_low, size_at_high         it takes 2 to 66
 --   end_of_next, end_of_none          one event more, and none left
 --   end_of_low                        each event takes two bits at least
 --   count_of_most                     a well-formed script has at most 16,376 events
-use Rattle.std.proofs.Common.{◌≡◌, ℕ, zero, suc, ◌+◌, ◌-◌, ◌*◌, ◌<◌, ◌≤◌, Bool, true, false, cond, ◌&&◌, eqb, ltb, leb, List, length, ap, arith, ne_eqb, leb-true}
+use Rattle.std.proofs.Common.{◌≡◌, ℕ, zero, suc, ◌+◌, ◌-◌, ◌*◌, ◌/◌, ◌%◌, ◌^◌, ◌<◌, ◌≤◌, Bool, true, false, cond, ◌&&◌, eqb, ltb, leb, List, length, refl, ap, ap₂, ◌∙◌, arith, leb-true}
 use mathlib.Core.Bool.{and-eq-true_iff}
 use Rattle.script.specs.declared.Piece.{Piece}
-use Rattle.script.specs.Script.{number_at, piece_at, kind_at, length_at, size_for, size_at, end_of, count_of, is_padded, is_script}
-use Rattle.script.proofs.Numbers.{number_at_lt, piece_number}
+use Rattle.script.specs.declared.Event.TheVariants.{Write}
+use Rattle.script.specs.Script.{number_at, piece_at, kind_at, length_at, event_of, event_at, size_for, size_of, size_at, end_of, count_of, is_padded, is_script}
+use Rattle.script.proofs.Numbers.{number_at_lt, number_at_add, piece_number}
 
 -- ---- an event and how many bits it takes
 
 module _ (s : List ℕ) (k : ℕ) where
-  pub kind_at_piece : (p : Piece) → p ≡ piece_at s k 2 → p.number ≡ kind_at s k
-  unfolding kind_at
-  kind_at_piece p is = piece_number s k 2 p is
-
-  pub length_at_piece : (p : Piece) → p ≡ piece_at s (k + 2) 2 → p.number ≡ length_at s k
-  unfolding length_at
-  length_at_piece p is = piece_number s (k + 2) 2 p is
-
   pub kind_at_lt : kind_at s k < 4
   unfolding kind_at
   kind_at_lt = number_at_lt s k 2
@@ -31,17 +25,36 @@ module _ (s : List ℕ) (k : ℕ) where
   unfolding length_at
   length_at_lt = number_at_lt s (k + 2) 2
 
-  pub size_at_write : kind_at s k ≡ 0 → 4 + 8 * length_at s k ≡ size_at s k
-  unfolding size_at size_for
-  size_at_write h = simp h
+  -- an event's head is four bits: its kind, and the two that are a write's byte count
+  pub event_is : (p : Piece) → p ≡ piece_at s k 4 → event_of (p.number / 4) (p.number % 4) ≡ event_at s k
+  unfolding event_at kind_at length_at
+  event_is p is =
+      let h : p.number ≡ number_at s k 2 * 2 ^ 2 + number_at s (k + 2) 2 = piece_number s k 4 p is ∙ number_at_add s k 2 2 in
+      let kind : p.number / 4 ≡ number_at s k 2 = omega (arith, length_at_lt) in
+      let n : p.number % 4 ≡ number_at s (k + 2) 2 = omega (arith, length_at_lt) in
+      ap₂ event_of kind n
 
-  pub size_at_fit : kind_at s k ≡ 3 → 66 ≡ size_at s k
-  unfolding size_at size_for
-  size_at_fit h = simp h
+  pub write_lt : (n : ℕ) → Write n ≡ event_at s k → n < 4
+  unfolding event_at event_of
+  write_lt n is = go (kind_at s k) kind_at_lt is
+    where
+      go : (kind : ℕ) → kind < 4 → Write n ≡ event_of kind (length_at s k) → n < 4
+      go zero h e = let same : n ≡ length_at s k = cc in omega (arith, length_at_lt)
+      go (suc zero) h e = absurd (cc)
+      go (suc (suc zero)) h e = absurd (cc)
+      go (suc (suc (suc zero))) h e = absurd (cc)
+      go (suc (suc (suc (suc kind)))) h e = absurd (omega arith)
 
-  pub size_at_other : (kind_at s k ≡ 0 → ⊥) → (kind_at s k ≡ 3 → ⊥) → 2 ≡ size_at s k
-  unfolding size_at size_for
-  size_at_other w f = simp (ne_eqb (kind_at s k) 0 w, ne_eqb (kind_at s k) 3 f)
+  pub size_of_event : size_of (event_at s k) ≡ size_at s k
+  unfolding event_at event_of size_at size_for
+  size_of_event = go (kind_at s k) kind_at_lt
+    where
+      go : (kind : ℕ) → kind < 4 → size_of (event_of kind (length_at s k)) ≡ size_for kind (length_at s k)
+      go zero h = refl
+      go (suc zero) h = refl
+      go (suc (suc zero)) h = refl
+      go (suc (suc (suc zero))) h = refl
+      go (suc (suc (suc (suc kind)))) h = absurd (omega arith)
 
   pub size_at_low : 2 ≤ size_at s k
   unfolding size_at size_for

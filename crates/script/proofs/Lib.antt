@@ -1,4 +1,3 @@
 pub mod Events
-pub mod Held
 pub mod Numbers
 pub mod Unique

@@ -8,7 +8,7 @@
 --   number_at_add       m + n bits are the first m, and then n
 --   piece_number, piece_lt, piece_next     the number of a piece, how large it is, and the place behind it
 --   bytes_at_snoc       one byte more
-use Rattle.std.proofs.Common.{◌≡◌, ℕ, zero, suc, ◌+◌, ◌-◌, ◌*◌, ◌/◌, ◌%◌, ◌^◌, ◌<◌, ◌≤◌, List, [], ◌∷◌, ◌++◌, get_or, sym, ap, ◌∙◌, subst, ap₂, add-zero, mod-lt, mod-eq_of_lt, one-mul, pow-suc, zero-add, add-one, one-add, arith, pow_pos, pow-add, shr-shr}
+use Rattle.std.proofs.Common.{◌≡◌, ℕ, zero, suc, ◌+◌, ◌-◌, ◌*◌, ◌/◌, ◌%◌, ◌^◌, ◌<◌, ◌≤◌, List, [], ◌∷◌, ◌++◌, get_or, sym, ap, ◌∙◌, subst, ap₂, add-zero, mod-lt, mod-eq_of_lt, one-mul, pow-suc, zero-add, add-one, one-add, arith, pow-add, shr-shr}
 use native.Mathlib.Nat.{mod-one}
 use native.Mathlib.Decide.{dec_lt}
 use lib.Pow.{mod-pow-add, mod-mod-pow, field, pow-lt}
@@ -74,9 +74,6 @@ power_is n h =
     let small : n < 32 = omega arith in
     ap (λ (p : ℕ). p % 2 ^ 32) (one-mul (2 ^ n)) ∙ mod-eq_of_lt (pow-lt small)
 
-pub power_pos : (n : ℕ) → n ≤ 8 → 0 < 1 * 2 ^ n % 2 ^ 32
-power_pos n h = subst (λ (p : ℕ). 0 < p) (sym (power_is n h)) (pow_pos n)
-
 pub number_at_shifted : (s : List ℕ) (k n x : ℕ) → Pair s (k / 8) x → n ≤ 8 → x / 2 ^ (16 - k % 8 - n) % (1 * 2 ^ n % 2 ^ 32) ≡ number_at s k n
 number_at_shifted s k n x pair h =
     let place : 8 * (k / 8) + k % 8 ≡ k = omega arith in
@@ -119,8 +116,8 @@ module _ (s : List ℕ) (k n : ℕ) (p : Piece) (is : p ≡ piece_at s k n) wher
   pub piece_lt : p.number < 2 ^ n
   piece_lt = subst (λ (x : ℕ). x < 2 ^ n) (sym piece_number) (number_at_lt s k n)
 
-  -- no script is so long that a place in it or behind it counts from 0 again
-  pub piece_next : k + n ≤ 5000000 → p.next ≡ k + n
+  -- a place that 64 bits hold does not count from 0 again
+  pub piece_next : k + n < 2 ^ 64 → p.next ≡ k + n
   piece_next h = ap (λ (q : Piece). q.next) is ∙ omega arith
 
 -- ---- bytes

@@ -12,15 +12,20 @@ use denote.Triple.Entry.{Args, Res}
 use denote.Triple.Clauses.{Ended, AtExit, Clauses}
 use Rattle.checksum.proofs.Unique.{OneAnswer}
 use Rattle.script.specs.declared.Reader.{Reader}
-use Rattle.script.specs.contracts.opened as opened
-use Rattle.script.specs.contracts.moved as moved
-use Rattle.script.specs.contracts.bits as bits
+use Rattle.script.specs.contracts.Reader.opened as opened
+use Rattle.script.specs.contracts.Reader.moved as moved
+use Rattle.script.specs.contracts.Reader.bits as bits
+use Rattle.script.specs.contracts.Reader.event as event
 use Rattle.script.proofs.bits_from.Reads as bits_from
+use Rattle.script.proofs.Event.size.Reads as size
 use Rattle.script.proofs.count_of.Reads as count_of
 use Rattle.script.proofs.is_script.Reads as is_script
 
 pub one_bits_from : OneAnswer bits_from.Post
 one_bits_from κ a x y s t p q = p ∙ sym q
+
+pub one_size : OneAnswer size.Post
+one_size κ a x y s t p q = p ∙ sym q
 
 pub one_count_of : OneAnswer count_of.Post
 one_count_of κ a x y s t p q = p ∙ sym q
@@ -56,3 +61,6 @@ module _ {M : Type 1} {𝓤 : Ura M} (𝓛 : Logic 𝓤) (mem : Memory → SProp
 
   pub one_bits : OneEnsured 𝓤 bits.ended (bits.clauses 𝓛 mem run)
   one_bits κs a g x y s t = both 𝓤 (λ p q. p ∙ sym q)
+
+  pub one_event : OneEnsured 𝓤 event.ended (event.clauses 𝓛 mem run)
+  one_event κs a g x y s t = both 𝓤 (λ p q. p ∙ sym q)

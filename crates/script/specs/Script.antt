@@ -5,11 +5,14 @@
 --   bytes_at s k n      the n bytes from bit k on
 --   count_of s          the event count, in the first 16 bits
 --   kind_at s k         the kind of the event at bit k
---   size_at s k         how many bits that event takes
+--   event_at s k        that event
+--   size_at s k         how many bits it takes
 --   end_of s n k        the bit behind the n events from bit k on
 --   is_script s         s is of the script's form
 use Rattle.std.specs.Prelude.{ℕ, zero, suc, ◌+◌, ◌-◌, ◌*◌, ◌/◌, ◌%◌, ◌^◌, Bool, cond, ◌&&◌, List, [], ◌∷◌, length, ◌==◌, nat_le, nat_lt, slice_index}
 use Rattle.script.specs.declared.Piece.{Piece}
+use Rattle.script.specs.declared.Event.{Event}
+use Rattle.script.specs.declared.Event.TheVariants.{Write, Read, Wait, Fit}
 
 -- Bit-packed, most significant bit first.
 unfoldable pub bit_at : List ℕ → ℕ → ℕ
@@ -39,9 +42,22 @@ kind_at s k = number_at s k 2
 unfoldable pub length_at : List ℕ → ℕ → ℕ
 length_at s k = number_at s (k + 2) 2
 
+-- The event of a kind, a write of n bytes.
+unfoldable pub event_of : ℕ → ℕ → Event
+event_of kind n = cond (kind == 0) (Write n) (cond (kind == 1) Read (cond (kind == 2) Wait Fit))
+
+unfoldable pub event_at : List ℕ → ℕ → Event
+event_at s k = event_of (kind_at s k) (length_at s k)
+
 -- A write takes its kind, its byte count and its bytes; a read and a wait their kind alone; a fitting its kind and the eight bytes of an ID.
 unfoldable pub size_for : ℕ → ℕ → ℕ
 size_for kind n = cond (kind == 0) (4 + 8 * n) (cond (kind == 3) 66 2)
+
+abbrev pub size_of : Event → ℕ
+size_of (Write n) = size_for 0 n
+size_of Read = size_for 1 0
+size_of Wait = size_for 2 0
+size_of Fit = size_for 3 0
 
 unfoldable pub size_at : List ℕ → ℕ → ℕ
 size_at s k = size_for (kind_at s k) (length_at s k)

@@ -8,17 +8,8 @@
 #![tactic(auto)]
 
 ghost use Rattle.std.specs.Prelude.{◌≡◌, ◌+◌, ◌/◌, ◌≤◌, min, length};
-ghost use Rattle.script.specs.Script.{piece_at, count_of, size_at, end_of, is_padded, is_script};
+ghost use Rattle.script.specs.Script.{piece_at, count_of, event_at, size_of, end_of, is_padded, is_script};
 ghost use Rattle.script.specs.Pair.{Pair};
-
-// The kinds of events.
-pub const WRITE: u32 = 0;
-
-pub const READ: u32 = 1;
-
-pub const WAIT: u32 = 2;
-
-pub const FIT: u32 = 3;
 
 // The most bytes that a script has.
 pub const MOST: usize = 4096;
@@ -26,15 +17,43 @@ pub const MOST: usize = 4096;
 // The first event stands behind the 16 bits of the event count.
 pub const FIRST: usize = 16;
 
-// How many bits a kind has, the byte count of a write, and a byte.
-pub const KIND: u32 = 2;
-
-pub const LENGTH: u32 = 2;
-
+// How many bits a byte has.
 pub const BYTE: u32 = 8;
+
+// How many bits an event's kind has, and an event's head: the kind, and the two bits behind it, which of a write are its byte count.
+pub const KIND: usize = 2;
+
+pub const HEAD: usize = 4;
 
 // The most bits that are read at once: wherever they begin, they lie in two bytes.
 const WIDEST: u32 = 8;
+
+// ---- the events
+
+// An event by its kind; a write has n bytes, a fitting the eight of an ID.
+#[derive(Clone, Copy, PartialEq, Eq)]
+pub enum Event {
+    Write { n: u8 },
+    Read,
+    Wait,
+    Fit,
+}
+
+impl Event {
+    // How many bits the event takes.
+    #[tactic(auto, unfolding(crate::specs::Script::size_for))]
+    pub fn size(self) -> usize
+        ensures { result ≡ size_of self }
+    {
+        match self {
+            Event::Write { n } => 4 + 8 * n as usize,
+            Event::Read | Event::Wait => 2,
+            Event::Fit => 66,
+        }
+    }
+}
+
+// ---- the reader
 
 // Bits that were read, as a number, and the place behind them.
 #[derive(Clone, Copy)]
@@ -43,39 +62,6 @@ pub struct Piece {
     pub next: usize,
 }
 
-// The byte that a place is in and the byte behind it, as one number.
-fn pair_at(script: &[u8], place: usize) -> u32
-    ensures { Pair script.now (place / 8) result }
-{
-    let i = place / 8;
-    let next = i + 1;
-    if next < script.len() {
-        return (script[i] as u32) * 256 + script[next] as u32;
-    }
-    byte::at(script, i) as u32 * 256
-}
-
-fn at_most_widest(n: u32) -> u32
-    ensures { result ≡ min n 8 }
-{
-    if n < WIDEST { n } else { WIDEST }
-}
-
-// The n bits from a place on; of more than eight, the first eight.
-fn bits_at(script: &[u8], place: usize, n: u32) -> Piece
-    ensures reads { result ≡ piece_at script.now place (min n 8) }
-{
-    let n = at_most_widest(n);
-    let pair = pair_at(script, place);
-    let behind = 16 - (place % 8) as u32 - n;
-    Piece {
-        number: (pair >> behind) % (1 << n),
-        next: std::num::wrapping_add_usize(place, n as usize),
-    }
-}
-
-// ---- the reader
-
 // The script's reader: a place in the script, kept with the script's bytes.
 #[derive(Clone, Copy)]
 pub struct Reader<'a> {
@@ -83,38 +69,72 @@ pub struct Reader<'a> {
     pub place: usize,
 }
 
-// A reader at the script's first bit.
-pub fn opened<'a>(script: &'a [u8]) -> Reader<'a>
-    ensures { (result.script ≡ script.entry) × (result.place ≡ 0) }
-{
-    Reader { script, place: 0 }
-}
+impl<'a> Reader<'a> {
+    // A reader at the script's first bit.
+    pub fn opened(script: &'a [u8]) -> Reader<'a>
+        ensures { (result.script ≡ script.entry) × (result.place ≡ 0) }
+    {
+        Reader { script, place: 0 }
+    }
 
-// The reader at another place.
-pub fn moved<'a>(r: Reader<'a>, place: usize) -> Reader<'a>
-    ensures { (result.script ≡ r.entry.script) × (result.place ≡ place) }
-{
-    Reader {
-        script: r.script,
-        place,
+    // The reader at another place.
+    pub fn moved(self, place: usize) -> Reader<'a>
+        ensures { (result.script ≡ self.entry.script) × (result.place ≡ place) }
+    {
+        Reader { place, ..self }
+    }
+
+    // The byte that the place is in and the byte behind it, as one number.
+    fn pair(self) -> u16
+        ensures { Pair self.entry.script.now (self.entry.place / 8) result }
+    {
+        let script = self.script;
+        let i = self.place / 8;
+        let next = i + 1;
+        // As it is: one test tells of both bytes; by `byte::at` for each it would be no plainer, and a read takes 5 instructions more.
+        if next < script.len() {
+            return u16::from_be_bytes([script[i], script[next]]);
+        }
+        u16::from_be_bytes([byte::at(script, i), 0])
+    }
+
+    // The n bits from the place on, of more than eight the first eight, and the place behind them.
+    pub fn bits(self, n: u32) -> Piece
+        ensures { result ≡ piece_at self.entry.script.now self.entry.place (min n 8) }
+    {
+        let n = n.min(WIDEST);
+        let pair = self.pair() as u32;
+        let behind = 16 - (self.place % 8) as u32 - n;
+        Piece {
+            number: (pair >> behind) % (1 << n),
+            next: self.place.wrapping_add(n as usize),
+        }
+    }
+
+    // The event at the place.
+    pub fn event(self) -> Event
+        ensures { result ≡ event_at self.entry.script.now self.entry.place }
+    {
+        let head = self.bits(HEAD as u32).number;
+        match head / 4 {
+            0 => Event::Write {
+                n: (head % 4) as u8,
+            },
+            1 => Event::Read,
+            2 => Event::Wait,
+            _ => Event::Fit,
+        }
     }
 }
 
-// The n bits from the reader's place on, as `bits_at` has them, and the place behind them.
-pub fn bits<'a>(r: Reader<'a>, n: u32) -> Piece
-    ensures { result ≡ piece_at r.entry.script.now r.entry.place (min n 8) }
-{
-    bits_at(r.script, r.place, n)
-}
-
-// What a reader of the script finds at a place. Its callers have plain slices and numbers, and go on from the place that it gives.
+// What a reader of the script finds at a place.
 pub fn bits_from(script: &[u8], place: usize, n: u32) -> Piece
     ensures { result ≡ piece_at script.now place (min n 8) }
 {
-    bits(moved(opened(script), place), n)
+    Reader::opened(script).moved(place).bits(n)
 }
 
-// ---- the events
+// ---- the script
 
 // The event count, byte by byte.
 pub fn count_of(script: &[u8]) -> u16
@@ -122,37 +142,18 @@ pub fn count_of(script: &[u8]) -> u16
 {
     let high = bits_from(script, 0, BYTE);
     let low = bits_from(script, high.next, BYTE);
-    (high.number * 256 + low.number) as u16
-}
-
-// The place behind the event at a place.
-fn event_end(script: &[u8], place: usize) -> usize
-    requires { place ≤ 4900000 }
-    ensures { result ≡ place + size_at script.now place }
-{
-    let event = bits_from(script, place, KIND);
-    let kind = event.number;
-    match kind {
-        WRITE => {
-            let length = bits_from(script, event.next, LENGTH);
-            length.next + 8 * length.number as usize
-        }
-        FIT => event.next + 64,
-        _ => event.next,
-    }
+    u16::from_be_bytes([high.number as u8, low.number as u8])
 }
 
 // The place behind the counted events.
 fn end_of(script: &[u8]) -> usize
     ensures { result ≡ end_of script.now (count_of script.now) 16 }
 {
-    let mut left = count_of(script);
-    let mut place = FIRST;
-    while 0 < left {
-        place = event_end(script, place);
-        left -= 1;
+    let mut reader = Reader::opened(script).moved(FIRST);
+    for _ in 0..count_of(script) {
+        reader.place += reader.event().size();
     }
-    place
+    reader.place
 }
 
 fn is_padded(script: &[u8], end: usize) -> bool
@@ -160,26 +161,18 @@ fn is_padded(script: &[u8], end: usize) -> bool
     ensures { result ≡ is_padded script.now end }
 {
     let whole = 8 * script.len();
-    if whole < end {
-        return false;
+    match whole.checked_sub(end) {
+        Some(left) if left < 8 => {
+            let padding = bits_from(script, end, left as u32);
+            padding.number == 0
+        }
+        _ => false,
     }
-    let left = whole - end;
-    if 8 <= left {
-        return false;
-    }
-    let padding = bits_from(script, end, left as u32);
-    padding.number == 0
 }
 
 // The bytes are of the script's form.
 pub fn is_script(script: &[u8]) -> bool
     ensures { result ≡ is_script script.now }
 {
-    if MOST < script.len() {
-        return false;
-    }
-    if script.len() < 2 {
-        return false;
-    }
-    is_padded(script, end_of(script))
+    (2..=MOST).contains(&script.len()) && is_padded(script, end_of(script))
 }

@@ -10,10 +10,9 @@ use borrow.Author.Tests.{lt-ltb, le-ltb}
 use lib.Dec.{eqb}
 use lib.ListN.{length}
 use Rattle.bridge.specs.declared.Bridge.{Bridge}
-use Rattle.search.specs.declared.Answer.{Answer}
-use Rattle.search.specs.declared.Answer.TheVariants.{Refused}
 use Rattle.pass.specs.Passes.{search}
-use Rattle.search.specs.Search.{search_number, listed, answer_of, written, buffer_of, bridge_of}
+use Rattle.search.specs.Search.{Answer, search_number, listed, answer_of, written, buffer_of, bridge_of}
+use Rattle.search.specs.Search.Answer.{Refused}
 
 module _ (n : ℕ) (d : List ℕ) (b : Bridge) where
   number_short : length d < 8 * min n 64 → search_number n d ≡ 9

@@ -1,5 +1,6 @@
 -- What a pass adds to the IDs that are found already. The definition puts an ID before what the passes after it come to; a search that goes
 -- on puts it behind what it has.
+--   search_some      a search that is allowed a pass is its Device Reset and its passes
 --   onward p r       the result r of the passes to come, behind the IDs p
 --   onward_none      no ID is found yet
 --   onward_f         one pass more, by how it ends: absent, last, more; onward_over, no pass is left
@@ -7,24 +8,28 @@
 --   going_start      before its first pass
 --   stands           what is handed back stands for the whole
 use mathlib.Core.Path.{◌≡◌, refl, sym, ap, ◌∙◌}
-use mathlib.Core.Bool.{Bool, true, false}
+use mathlib.Core.Bool.{Bool, true, false, true≢false, false≢true}
 use mathlib.Core.List.{List, [], ◌∷◌, ◌++◌, append-nil}
-use Prim.Native.Nat.{ℕ, suc, ◌+◌, ◌-◌, ◌<◌}
+use Prim.Native.Nat.{ℕ, zero, suc, ◌+◌, ◌-◌, ◌<◌}
 use native.Mathlib.Nat.{zero-add}
 use native.Mathlib.Omega.{arith}
 use lib.ListN.{length, length-append}
 use lib.Seq.{append_snoc}
+use Rattle.std.specs.Prelude.{Option, None, Some, is_some}
 use Rattle.bridge.specs.declared.Bridge.{Bridge}
 use Rattle.bridge.specs.Bridge.{command}
-use Rattle.pass.specs.declared.Conflict.{Conflict}
-use Rattle.pass.specs.declared.Conflict.TheVariants.{Nowhere, At}
 use Rattle.pass.specs.declared.Walk.{Walk}
 use Rattle.pass.specs.Pass.{passed}
-use Rattle.pass.specs.Passes.{Result, before, continued, searched}
+use Rattle.pass.specs.Passes.{Result, before, continued, searched, search}
 use Rattle.pass.proofs.Next.{next, searched_absent, searched_next}
-use Rattle.search.specs.declared.Answer.TheVariants.{Listed}
 use Rattle.search.specs.declared.Searched.{Searched}
-use Rattle.search.specs.Search.{list_of, listed, written}
+use Rattle.search.specs.Search.{list_of, told, written}
+
+-- where a pass is allowed, the Device Reset comes before the first one
+pub search_some : (n : ℕ) (b : Bridge) → (n ≡ 0 → ⊥) → search n b ≡ searched n 0 None (command (0xF0 ∷ []) b)
+unfolding search
+search_some zero b h = absurd (h refl)
+search_some (suc n) b h = refl
 
 -- ---- behind what is found
 
@@ -44,8 +49,8 @@ onward_before p x r =
     (omega (arith, length-append p (x ∷ []))) (λ i. r.bridge)
 
 -- n of the passes allowed are used, each for one ID found
-module _ (allowed n i : ℕ) (c : Conflict) (b : Bridge) (p : List ℕ) (counted : length p ≡ n) where
-  pub onward_over : n ≡ allowed → onward p (searched (allowed - n) i c b) ≡ record { ids = p; passes = n; complete = false; bridge = b }
+module _ (allowed n i : ℕ) (c : Option ℕ) (b : Bridge) (p : List ℕ) (counted : length p ≡ n) where
+  pub onward_over : n ≡ allowed → onward p (searched (allowed - n) i c b) ≡ record { ids = p; passes = allowed; complete = false; bridge = b }
   unfolding searched
   onward_over e =
       ap (λ (m : ℕ). onward p (searched m i c b)) over
@@ -74,47 +79,54 @@ module _ (allowed n i : ℕ) (c : Conflict) (b : Bridge) (p : List ℕ) (counted
       ends : next i c b ≡ w
       ends = ap (passed i c) (sym reset) ∙ sym walk
 
-      went : (q : Conflict) → w.conflict ≡ q → onward p (searched (allowed - n) i c b) ≡ onward p (continued q w (searched (allowed - (n + 1)) w.id q w.bridge))
+      went : (q : Option ℕ) → w.conflict ≡ q → onward p (searched (allowed - n) i c b) ≡ onward p (continued q w (searched (allowed - (n + 1)) w.id q w.bridge))
       went q e =
           one_more
           ∙ ap (onward p)
           (searched_next (allowed - (n + 1)) i c b q there (ap (λ (v : Walk). v.conflict) ends ∙ e)
           ∙ ap (λ (v : Walk). continued q v (searched (allowed - (n + 1)) v.id q v.bridge)) ends)
 
-      pub onward_last : w.conflict ≡ Nowhere → onward p (searched (allowed - n) i c b) ≡ record { ids = p ++ w.id ∷ []; passes = n + 1; complete = true; bridge = w.bridge }
+      pub onward_last : is_some w.conflict ≡ false → onward p (searched (allowed - n) i c b) ≡ record { ids = p ++ w.id ∷ []; passes = n + 1; complete = true; bridge = w.bridge }
       unfolding continued
-      onward_last e = went Nowhere e ∙ result_path true refl (omega arith) (λ j. w.bridge)
+      onward_last = go w.conflict refl
+        where
+          go : (q : Option ℕ) → w.conflict ≡ q → is_some q ≡ false → onward p (searched (allowed - n) i c b) ≡ record { ids = p ++ w.id ∷ []; passes = n + 1; complete = true; bridge = w.bridge }
+          go None e h = went None e ∙ result_path true refl (omega arith) (λ j. w.bridge)
+          go (Some k) e h = absurd (true≢false h)
 
-      pub onward_more : (k : ℕ) → w.conflict ≡ At k → onward p (searched (allowed - n) i c b) ≡ onward (p ++ w.id ∷ []) (searched (allowed - (n + 1)) w.id (At k) w.bridge)
+      pub onward_more : is_some w.conflict ≡ true → onward p (searched (allowed - n) i c b) ≡ onward (p ++ w.id ∷ []) (searched (allowed - (n + 1)) w.id w.conflict w.bridge)
       unfolding continued
-      onward_more k e = went (At k) e ∙ onward_before p w.id (searched (allowed - (n + 1)) w.id (At k) w.bridge)
+      onward_more = go w.conflict refl
+        where
+          go : (q : Option ℕ) → w.conflict ≡ q → is_some q ≡ true → onward p (searched (allowed - n) i c b) ≡ onward (p ++ w.id ∷ []) (searched (allowed - (n + 1)) w.id w.conflict w.bridge)
+          go None e h = absurd (false≢true h)
+          go (Some k) e h =
+              went (Some k) e ∙ onward_before p w.id (searched (allowed - (n + 1)) w.id (Some k) w.bridge)
+              ∙ ap (λ (q : Option ℕ). onward (p ++ w.id ∷ []) (searched (allowed - (n + 1)) w.id q w.bridge)) (sym e)
 
 -- ---- a search under way
 
 -- of at most `allowed` passes from `start` on, with the list buffer d, n are used, each for one ID; the list is e by now, the bridge b, and
 -- the next pass goes by the ID i and the last conflict c
-pub record Going (allowed : ℕ) (start : Bridge) (d e : List ℕ) (b : Bridge) (i : ℕ) (c : Conflict) (n : ℕ) : Type 0 where
+pub record Going (allowed : ℕ) (start : Bridge) (d e : List ℕ) (b : Bridge) (i : ℕ) (c : Option ℕ) (n : ℕ) : Type 0 where
   pub ids : List ℕ
   pub counted : length ids ≡ n
   pub list : e ≡ written ids d
-  pub whole : searched allowed 0 Nowhere start ≡ onward ids (searched (allowed - n) i c b)
+  pub whole : searched allowed 0 None start ≡ onward ids (searched (allowed - n) i c b)
 
-pub going_start : (allowed : ℕ) (start : Bridge) (d : List ℕ) → Going allowed start d d start 0 Nowhere 0
+pub going_start : (allowed : ℕ) (start : Bridge) (d : List ℕ) → Going allowed start d d start 0 None 0
 unfolding list_of
 going_start allowed start d =
     record {
       ids = [];
       counted = refl;
       list = refl;
-      whole = onward_none _ ∙ ap (λ (m : ℕ). onward [] (searched m 0 Nowhere start)) (omega arith);
+      whole = onward_none _ ∙ ap (λ (m : ℕ). onward [] (searched m 0 None start)) (omega arith);
     }
 
 -- what is handed back stands for the whole, if it was made so
-pub stands : {whole : Result} {r : Searched} {e : List ℕ} (d p : List ℕ) {n m : ℕ} {t : Bool} {b : Bridge} → whole ≡ record { ids = p; passes = m; complete = t; bridge = b } → length p ≡ n → (r.answer ≡ Listed n m t) × (r.bridge ≡ b) → e ≡ written p d → ((r.answer ≡ listed whole) × (r.bridge ≡ whole.bridge)) × (e ≡ written whole.ids d)
-stands d p {m = m} {t = t} w counted r l = (
-  (
-    r.0 ∙ ap (λ (k : ℕ). Listed k m t) (sym counted) ∙ ap listed (sym w),
-    r.1 ∙ ap (λ (v : Result). v.bridge) (sym w),
-  ),
+pub stands : {whole : Result} {r : Searched} {e : List ℕ} (d p : List ℕ) {n m : ℕ} {t : Bool} {b : Bridge} → whole ≡ record { ids = p; passes = m; complete = t; bridge = b } → length p ≡ n → r ≡ record { count = n; passes = m; complete = t; bridge = b } → e ≡ written p d → (r ≡ told whole) × (e ≡ written whole.ids d)
+stands d p {m = m} {t = t} {b = b} w counted r l = (
+  r ∙ ap {B = Searched} (λ (k : ℕ). record { count = k; passes = m; complete = t; bridge = b }) (sym counted) ∙ ap told (sym w),
   l ∙ ap (λ (v : Result). written v.ids d) (sym w),
 )

@@ -9,54 +9,48 @@
 mod listing;
 mod passes;
 
-ghost use Rattle.std.specs.Prelude.{◌≡◌, min};
-ghost use Rattle.search.specs.Search.{answer_of, buffer_of, bridge_of};
+ghost use Rattle.std.specs.Prelude.{◌≡◌};
+ghost use Rattle.search.specs.Search.{number_of, answer_in, bridge_in, answer_of, buffer_of, bridge_of};
 
 use bridge::Bridge;
 
-// The refusal of a search, by its number in the table of document 01.
-pub const REFUSED_SHORT: u8 = 9;
-
-#[derive(Clone, Copy)]
-pub enum Answer {
-    // So many IDs are listed, by so many passes, and whether the list is complete.
-    Listed {
-        count: usize,
-        passes: usize,
-        complete: bool,
-    },
-    Refused {
-        number: u8,
-    },
+// Why a search is refused: its list is shorter than 8 bytes for each ID that it may find.
+#[derive(Clone, Copy, PartialEq, Eq)]
+pub enum Refusal {
+    Short,
 }
 
+impl Refusal {
+    // The number in the table of document 01.
+    pub fn number(self) -> u8
+        ensures { result ≡ number_of self }
+    {
+        match self {
+            Refusal::Short => 9,
+        }
+    }
+}
+
+// What a search comes to: so many IDs are listed, by so many passes, whether the list is complete, and the bridge afterwards.
+// As it is: the count is a value of `answer_of`, and `buffer_of` says what the whole list holds, on a refusal too.
 #[derive(Clone, Copy)]
 pub struct Searched {
-    pub answer: Answer,
+    pub count: usize,
+    pub passes: usize,
+    pub complete: bool,
     pub bridge: Bridge,
 }
 
-// More passes than there is room for probes do nothing more.
-fn at_most(b: u16) -> usize
-    ensures { result ≡ min b 64 }
-{
-    if b < 64 { b as usize } else { 64 }
-}
-
 // The search. The IDs come to lie at the front of the list, eight bytes each; a refused search changes nothing.
-pub fn search(bridge: Bridge, b: u16, list: &mut [u8]) -> Searched
-    ensures answer_value { result.answer ≡ answer_of b list.old bridge }
-    ensures bridge_value { result.bridge ≡ bridge_of b list.old bridge }
+pub fn search(bridge: Bridge, b: u16, list: &mut [u8]) -> Result<Searched, Refusal>
+    ensures answer_value { answer_in result ≡ answer_of b list.old bridge }
+    ensures bridge_value { bridge_in bridge result ≡ bridge_of b list.old bridge }
     ensures list_after { list.new ≡ buffer_of b list.old bridge }
 {
-    let allowed = at_most(b);
+    // More passes than there is room for probes do nothing more.
+    let allowed = usize::from(b.min(64));
     if list.len() < 8 * allowed {
-        return Searched {
-            answer: Answer::Refused {
-                number: REFUSED_SHORT,
-            },
-            bridge,
-        };
+        return Err(Refusal::Short);
     }
-    passes::all(allowed, bridge, list)
+    Ok(passes::all(allowed, bridge, list))
 }

@@ -3,11 +3,11 @@ use crate::probes;
 use bridge::Bridge;
 
 fn with(bridge: Bridge, id: &[u8; 8]) -> Bridge {
-    bridge.fit(id).bridge
+    bridge.fit(id).unwrap_or(bridge)
 }
 
 pub(crate) fn without(bridge: Bridge, id: &[u8; 8]) -> Bridge {
-    bridge.withdraw(id).bridge
+    bridge.withdraw(id).unwrap_or(bridge)
 }
 
 // Withdrawn and fitted again.
@@ -24,45 +24,44 @@ pub(crate) fn of_three(first: &[u8; 8], second: &[u8; 8], third: &[u8; 8]) -> Br
 }
 
 pub(crate) fn with_numbered(bridge: Bridge, n: u8) -> Bridge {
-    let id = probes::numbered(n);
-    with(bridge, &id)
+    with(bridge, &probes::numbered(n))
 }
 
 pub(crate) fn without_numbered(bridge: Bridge, n: u8) -> Bridge {
-    let id = probes::numbered(n);
-    without(bridge, &id)
+    without(bridge, &probes::numbered(n))
 }
 
 pub(crate) fn of_64() -> Bridge {
     let mut bridge = Bridge::power_on();
-    let mut n: u8 = 0;
-    while n < 64 {
+    for n in 0..64 {
         bridge = with_numbered(bridge, n);
-        n += 1;
     }
     bridge
 }
 
 // ---- what was before
 
+// A write, and no time.
+fn given(bridge: Bridge, bytes: &[u8]) -> Bridge {
+    bridge.write(bytes).unwrap_or(bridge)
+}
+
 fn rom(bridge: Bridge, code: u8) -> Bridge {
-    let bytes = [Bridge::WRITE_BYTE, code];
-    pass::command(pass::command(bridge, b"\xB4"), &bytes)
+    let reset = pass::command(bridge, b"\xB4");
+    pass::command(reset, &[Bridge::WRITE_BYTE, code])
 }
 
 // One command so many times.
-fn repeated(bridge: Bridge, times: u8, bytes: &[u8]) -> Bridge {
-    let mut b = bridge;
-    let mut i: u8 = 0;
-    while i < times {
-        b = pass::command(b, bytes);
-        i += 1;
+// As it is: speed has these lines too, but programs share no code; a library for a loop of three lines would be no plainer.
+fn repeated(mut bridge: Bridge, times: u8, bytes: &[u8]) -> Bridge {
+    for _ in 0..times {
+        bridge = pass::command(bridge, bytes);
     }
-    b
+    bridge
 }
 
 pub(crate) fn with_pending(bridge: Bridge) -> Bridge {
-    rom(bridge, probe::SEARCH_ROM).write(b"\x78\x80").bridge
+    given(rom(bridge, probe::SEARCH_ROM), b"\x78\x80")
 }
 
 pub(crate) fn skipped(bridge: Bridge) -> Bridge {
@@ -71,8 +70,7 @@ pub(crate) fn skipped(bridge: Bridge) -> Bridge {
 
 // Skip ROM with no 1-Wire reset before it.
 pub(crate) fn skipped_unheard(bridge: Bridge) -> Bridge {
-    let bytes = [Bridge::WRITE_BYTE, probe::SKIP_ROM];
-    pass::command(bridge, &bytes)
+    pass::command(bridge, &[Bridge::WRITE_BYTE, probe::SKIP_ROM])
 }
 
 // Read ROM and the 64 bits that follow.
@@ -124,7 +122,7 @@ pub(crate) fn reset_at_overdrive(bridge: Bridge) -> Bridge {
 // Skip ROM, SPU, and then a byte that is pending and will switch the pull-up on.
 pub(crate) fn with_pullup_due(bridge: Bridge) -> Bridge {
     let strong = pass::command(skipped(bridge), b"\xD2\xB4");
-    strong.write(b"\xA5\x44").bridge
+    given(strong, b"\xA5\x44")
 }
 
 pub(crate) fn with_pullup(bridge: Bridge) -> Bridge {

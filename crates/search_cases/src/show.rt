@@ -1,226 +1,139 @@
 // Searches, each with the line that it prints.
-use crate::{lines, say};
+use crate::lines;
 use bridge::Bridge;
-use line::Line;
-use probe::{Condition, Probe};
-use search::{Answer, Searched};
-use std::io;
+use probe::Condition;
+use search::{Refusal, Searched};
+use std::{fmt, io};
 
 // A list as it is before a search.
-fn blank() -> [u8; 512] {
-    [0xEE; 512]
-}
+const BLANK: [u8; 512] = [0xEE; 512];
 
-// How many IDs are listed, once what was answered is said.
-fn answer(rt: &impl Print, given: Answer) -> io::Result<usize> {
-    match given {
-        Answer::Listed {
-            count,
-            passes,
-            complete,
-        } => {
-            say::number(rt, count)?;
-            say::text(rt, b" listed, passes ")?;
-            say::number(rt, passes)?;
-            if complete {
-                say::text(rt, b", complete")?;
-            } else {
-                say::text(rt, b", not complete")?;
+// What a search answered.
+#[derive(Clone, Copy)]
+struct Answer(Result<Searched, Refusal>);
+
+impl fmt::Display for Answer {
+    fn fmt<W: fmt::Write>(&self, f: &mut fmt::Formatter<W>) -> fmt::Result {
+        match self.0 {
+            Ok(searched) => {
+                let count = searched.count;
+                let passes = searched.passes;
+                let end = if searched.complete { "" } else { "not " };
+                write!(f, "{count} listed, passes {passes}, {end}complete")
             }
-            Ok(count)
-        }
-        Answer::Refused { number } => {
-            say::text(rt, b"refused with ")?;
-            say::number(rt, number as usize)?;
-            Ok(0)
+            Err(refusal) => write!(f, "refused with {}", refusal.number()),
         }
     }
 }
 
-fn status(rt: &impl Print, bridge: Bridge) -> io::Result<()> {
-    say::text(rt, b", status ")?;
-    say::byte(rt, bridge.read())
-}
+// Bytes in hexadecimal, a space before each eight.
+#[derive(Clone, Copy)]
+struct Eights<'a>(&'a [u8]);
 
-// What was answered and the status afterwards.
-fn outcome(rt: &impl Print, title: &[u8], searched: Searched) -> io::Result<usize> {
-    say::text(rt, title)?;
-    say::text(rt, b": ")?;
-    let given = searched.answer;
-    let count = answer(rt, given)?;
-    let after = searched.bridge;
-    status(rt, after)?;
-    Ok(count)
-}
-
-// The first bytes of a list, in eights.
-fn front(rt: &impl Print, list: &[u8], n: usize) -> io::Result<()> {
-    if n <= list.len() {
-        say::grouped(rt, &list[..n])?;
+impl fmt::Display for Eights<'_> {
+    fn fmt<W: fmt::Write>(&self, f: &mut fmt::Formatter<W>) -> fmt::Result {
+        for eight in self.0.chunks(8) {
+            write!(f, " ")?;
+            for byte in eight {
+                write!(f, "{byte:02x}")?;
+            }
+        }
+        Ok(())
     }
-    say::text(rt, b"\n")
 }
 
-pub(crate) fn search(rt: &impl Print, title: &[u8], bridge: Bridge, b: u16) -> io::Result<Bridge> {
-    let mut list = blank();
-    let searched = search::search(bridge, b, &mut list);
-    let count = outcome(rt, title, searched)?;
-    front(rt, &list, count % 65 * 8)?;
-    let after = searched.bridge;
+// What was answered, and the bridge and how many IDs are listed afterwards.
+fn outcome(
+    rt: &impl Print,
+    title: &str,
+    before: Bridge,
+    answer: Result<Searched, Refusal>,
+) -> io::Result<(Bridge, usize)> {
+    let (after, count) = answer.map_or((before, 0), |s| (s.bridge, s.count));
+    print!(rt; "{title}: {}, status {:02x}", Answer(answer), after.read())?;
+    Ok((after, count))
+}
+
+pub(crate) fn search(rt: &impl Print, title: &str, bridge: Bridge, b: u16) -> io::Result<Bridge> {
+    let mut list = BLANK;
+    let answer = search::search(bridge, b, &mut list);
+    let (after, count) = outcome(rt, title, bridge, answer)?;
+    println!(rt; "{}", Eights(&list[..count % 65 * 8]))?;
     Ok(after)
 }
 
 // ---- a list that is too long to print
 
-fn id_at(list: &[u8; 512], i: usize) -> [u8; 8] {
-    let at = i % 64 * 8;
-    [
-        list[at],
-        list[at + 1],
-        list[at + 2],
-        list[at + 3],
-        list[at + 4],
-        list[at + 5],
-        list[at + 6],
-        list[at + 7],
-    ]
+// Of two IDs the one that has 0 at the lowest bit where they differ comes first.
+fn key(id: &[u8; 8]) -> u64 {
+    identity::number(id).reverse_bits()
 }
 
-// Two IDs are compared at the lowest bit where they differ; the one with 0 comes first.
-fn comes_before(first: &[u8; 8], second: &[u8; 8]) -> bool {
-    let x = identity::number(first);
-    let y = identity::number(second);
-    let apart = x ^ y;
-    if apart == 0 {
-        return false;
-    }
-    let lowest = apart ^ (apart & (apart - 1));
-    y & lowest != 0
-}
-
-fn rises(list: &[u8; 512], i: usize, j: usize) -> bool {
-    let first = id_at(list, i);
-    let second = id_at(list, j);
-    comes_before(&first, &second)
-}
-
-// How many of the first IDs come before the one after them.
-fn in_order(list: &[u8; 512], count: usize) -> usize {
-    let mut good: usize = 0;
-    let mut i: usize = 1;
-    while i < count {
-        if rises(list, i - 1, i) {
-            good += 1;
-        }
-        i += 1;
-    }
-    good
+// How many of the IDs come before the one after them.
+fn in_order(ids: &[[u8; 8]]) -> usize {
+    ids.windows(2)
+        .filter(|pair| key(&pair[0]) < key(&pair[1]))
+        .count()
 }
 
 // The first and the last of the IDs, and how many of them come before the one after them.
-pub(crate) fn ends(rt: &impl Print, title: &[u8], bridge: Bridge, b: u16) -> io::Result<()> {
-    let mut list = blank();
-    let searched = search::search(bridge, b, &mut list);
-    let count = outcome(rt, title, searched)?;
-    if 0 < count {
-        let first = id_at(&list, 0);
-        let last = id_at(&list, count - 1);
-        say::grouped(rt, &first)?;
-        say::text(rt, b" to")?;
-        say::grouped(rt, &last)?;
-        say::text(rt, b", in order ")?;
-        say::number(rt, in_order(&list, count))?;
+pub(crate) fn ends(rt: &impl Print, title: &str, bridge: Bridge, b: u16) -> io::Result<()> {
+    let mut list = BLANK;
+    let answer = search::search(bridge, b, &mut list);
+    let (_, count) = outcome(rt, title, bridge, answer)?;
+    let (ids, _) = list.as_chunks::<8>();
+    let ids = &ids[..count % 65];
+    if let (Some(first), Some(last)) = (ids.first(), ids.last()) {
+        let good = in_order(ids);
+        print!(rt; "{} to{}, in order {good}", Eights(first), Eights(last))?;
     }
-    say::text(rt, b"\n")
+    println!(rt; "")
 }
 
 // ---- lists of other lengths
 
-fn searched_within(bridge: Bridge, b: u16, list: &mut [u8], room: usize) -> Searched {
-    if room <= list.len() {
-        search::search(bridge, b, &mut list[..room])
-    } else {
-        search::search(bridge, b, list)
-    }
-}
-
 // A search whose list is the first bytes of a buffer, of which the first 40 are shown.
 pub(crate) fn room(
     rt: &impl Print,
-    title: &[u8],
+    title: &str,
     bridge: Bridge,
     b: u16,
     room: usize,
 ) -> io::Result<()> {
-    let mut buffer = blank();
-    let searched = searched_within(bridge, b, &mut buffer, room);
-    outcome(rt, title, searched)?;
-    front(rt, &buffer, 40)
+    let mut buffer = BLANK;
+    let answer = search::search(bridge, b, &mut buffer[..room.min(512)]);
+    outcome(rt, title, bridge, answer)?;
+    println!(rt; "{}", Eights(buffer.get(..40).unwrap_or(&[])))
 }
 
 // ---- Resume
 
-fn id_bytes(id: u64) -> [u8; 8] {
-    [
-        (id % 256) as u8,
-        ((id >> 8) % 256) as u8,
-        ((id >> 16) % 256) as u8,
-        ((id >> 24) % 256) as u8,
-        ((id >> 32) % 256) as u8,
-        ((id >> 40) % 256) as u8,
-        ((id >> 48) % 256) as u8,
-        ((id >> 56) % 256) as u8,
-    ]
-}
-
-fn selected(rt: &impl Print, p: Probe) -> io::Result<()> {
-    let c = p.condition;
-    if let Condition::Selected = c {
-        let bytes = id_bytes(p.id);
-        say::grouped(rt, &bytes)?;
-    }
-    Ok(())
-}
-
-fn all_selected(rt: &impl Print, line: Line) -> io::Result<()> {
-    let mut i: usize = 0;
-    while i < 64 {
-        let p = line.probes[i];
-        selected(rt, p)?;
-        i += 1;
-    }
-    Ok(())
-}
-
 // The probes that a Resume selects.
-pub(crate) fn resumed(rt: &impl Print, title: &[u8], bridge: Bridge) -> io::Result<()> {
-    let after = lines::resumed(bridge);
-    let line = after.line;
-    say::text(rt, title)?;
-    say::text(rt, b":")?;
-    all_selected(rt, line)?;
-    say::text(rt, b"\n")
+pub(crate) fn resumed(rt: &impl Print, title: &str, bridge: Bridge) -> io::Result<()> {
+    print!(rt; "{title}:")?;
+    for p in &lines::resumed(bridge).line.probes {
+        if let Condition::Selected = p.condition {
+            print!(rt; "{}", Eights(&p.id.to_le_bytes()))?;
+        }
+    }
+    println!(rt; "")
 }
 
 // The status after a 1-Wire reset at overdrive.
-pub(crate) fn presence(rt: &impl Print, title: &[u8], bridge: Bridge) -> io::Result<()> {
-    say::text(rt, title)?;
-    status(rt, lines::reset_at_overdrive(bridge))?;
-    say::text(rt, b"\n")
+pub(crate) fn presence(rt: &impl Print, title: &str, bridge: Bridge) -> io::Result<()> {
+    println!(rt;
+        "{title}, status {:02x}",
+        lines::reset_at_overdrive(bridge).read()
+    )
 }
 
-pub(crate) fn pullup(rt: &impl Print, title: &[u8], bridge: Bridge) -> io::Result<()> {
-    say::text(rt, title)?;
-    let r = bridge.registers;
-    if r.pullup {
-        say::text(rt, b": it is on\n")
-    } else {
-        say::text(rt, b": it is off\n")
-    }
+pub(crate) fn pullup(rt: &impl Print, title: &str, bridge: Bridge) -> io::Result<()> {
+    let now = if bridge.registers.pullup { "on" } else { "off" };
+    println!(rt; "{title}: it is {now}")
 }
 
 // The bridge after a search, of which nothing is printed.
 pub(crate) fn found(bridge: Bridge, b: u16) -> Bridge {
-    let mut list = blank();
-    search::search(bridge, b, &mut list).bridge
+    let mut list = BLANK;
+    search::search(bridge, b, &mut list).map_or(bridge, |s| s.bridge)
 }

@@ -13,11 +13,11 @@ use native.Mathlib.Omega.{arith}
 use borrow.Author.Tests.{le-leb, le-ltb, lt-leb}
 use lib.Dec.{ltb, leb, lit<, leb-zero}
 use lib.ListN.{length, take, length-take, length-map}
+use Rattle.std.specs.Prelude.{None}
 use Rattle.line.specs.Line.{fitted, id_of, ids_of}
 use Rattle.bridge.specs.declared.Bridge.{Bridge}
 use Rattle.bridge.proofs.Effects.{command_device_reset}
 use Rattle.bridge.specs.Bridge.{speed_of, command}
-use Rattle.pass.specs.declared.Conflict.TheVariants.{Nowhere}
 use Rattle.pass.specs.Pass.{direction}
 use Rattle.pass.specs.Passes.{absent, Result, searched, search}
 use Rattle.enumeration.proofs.Tree.{has, sorted, Sequences}
@@ -32,9 +32,9 @@ use Rattle.pass.proofs.Next.{searched_absent}
 use Rattle.searching.proofs.Outcomes.{no_snoc, searched_outcome, searched_enough}
 
 -- the first pass asks for 0 everywhere
-first_pass : (ids : List ℕ) → has ids 0 0 ≡ true → Sequences (has ids) 64 0 0 (direction 0 Nowhere) (sorted ids)
+first_pass : (ids : List ℕ) → has ids 0 0 ≡ true → Sequences (has ids) 64 0 0 (direction 0 None) (sorted ids)
 unfolding direction sorted
-first_pass ids there = sequence (has ids) (has_split ids) 64 0 0 (lit< tt) there (direction 0 Nowhere) (λ j h. refl)
+first_pass ids there = sequence (has ids) (has_split ids) 64 0 0 (lit< tt) there (direction 0 None) (λ j h. refl)
 
 -- after the Device Reset nothing is pending, the bridge is at standard speed, and the line is as it was
 pub started : {ids : List ℕ} {rest : Rest} (b : Bridge) → Holds ids rest b.line → Idle ids rest (command (0xF0 ∷ []) b)
@@ -70,7 +70,7 @@ absent_facts rest m b t =
 search_absent : (m : ℕ) (b : Bridge) → b.line.count ≡ 0 → search (suc m) b ≡ absent (command (0xB4 ∷ []) (command (0xF0 ∷ []) b))
 unfolding search
 search_absent m b none =
-    searched_absent m 0 Nowhere (command (0xF0 ∷ []) b)
+    searched_absent m 0 None (command (0xF0 ∷ []) b)
     (reset_ppd (command (0xF0 ∷ []) b) (ap (λ (r : Bridge). r.registers.pending) (command_device_reset b))
     (ap (λ (r : Bridge). speed_of r.registers) (command_device_reset b))
     ∙ ap (λ (r : Bridge). ltb 0 r.line.count) (command_device_reset b)
@@ -93,8 +93,8 @@ unfolding search
 search_some i ids rest m b h =
     let passes = first_pass (i ∷ ids) (has_some i ids) in
     outcome_facts (i ∷ ids) rest (sorted (i ∷ ids)) m (command (0xF0 ∷ []) b)
-    (searched (suc m) 0 Nowhere (command (0xF0 ∷ []) b)) (sequences_some passes)
-    (searched_outcome (i ∷ ids) rest (has_some i ids) 0 Nowhere passes (suc m) (command (0xF0 ∷ []) b) (started b h))
+    (searched (suc m) 0 None (command (0xF0 ∷ []) b)) (sequences_some passes)
+    (searched_outcome (i ∷ ids) rest (has_some i ids) 0 None passes (suc m) (command (0xF0 ∷ []) b) (started b h))
 
 -- ---- every search
 
@@ -120,7 +120,7 @@ module _ (ids : List ℕ) (rest : Rest) (b : Bridge) (h : Holds ids rest b.line)
       go : (ids : List ℕ) → Holds ids rest b.line → (ids ≡ [] → b.line.count ≡ 0) → length ids ≤ suc m → length ids ≤ suc n → search (suc m) b ≡ search (suc n) b
       go [] h none f g = search_absent m b (none refl) ∙ sym (search_absent n b (none refl))
       go (i ∷ ids) h none f g =
-          searched_enough (i ∷ ids) rest (has_some i ids) 0 Nowhere (first_pass (i ∷ ids) (has_some i ids)) (suc m) (suc n)
+          searched_enough (i ∷ ids) rest (has_some i ids) 0 None (first_pass (i ∷ ids) (has_some i ids)) (suc m) (suc n)
           (omega (arith, sorted_short (i ∷ ids))) (omega (arith, sorted_short (i ∷ ids))) (command (0xF0 ∷ []) b)
           (started b h)
 

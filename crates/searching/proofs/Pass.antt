@@ -9,10 +9,11 @@
 use mathlib.Core.Path.{◌≡◌, refl, sym, ap, ap₂, subst, subst⁻¹, fun_ext, ◌∙◌}
 use mathlib.Core.Bool.{Bool, true, false, cond, not, ◌&&◌, true≢false}
 use mathlib.Core.List.{List, [], ◌∷◌, map, map-map}
-use mathlib.Core.Option.{Option, none, some}
 use Prim.Native.Nat.{ℕ, zero, suc, ◌+◌, ◌*◌, ◌^◌, ◌<◌}
 use native.Mathlib.Nat.{one-mul, zero-mul, add-zero}
 use native.Mathlib.Omega.{arith}
+use Rattle.std.specs.Prelude.{Option, None, Some}
+use Rattle.std.specs.Option.{option_or}
 use Rattle.probe.specs.declared.Slot.TheVariants.{Second}
 use Rattle.probe.specs.declared.Probe.{Probe}
 use lib.Dec.{ltb, lit<}
@@ -24,13 +25,11 @@ use Rattle.bridge.specs.declared.Bridge.{Bridge}
 use Rattle.bridge.specs.declared.Pending.TheVariants.{Nothing, Reset, WriteByte, Triplet}
 use Rattle.bridge.proofs.Effects.{pended_speed, command_reset, command_write, command_triplet}
 use Rattle.bridge.specs.Bridge.{is_pending, busy, speed_of, pended, with_registers, finished_reset, finished_write, finished_triplet, command}
-use Rattle.pass.specs.declared.Conflict.{Conflict}
-use Rattle.pass.specs.declared.Conflict.TheVariants.{Nowhere, At}
 use Rattle.pass.specs.declared.Walk.{Walk}
 use Rattle.pass.specs.Pass.{direction, noted, triplet_byte, took_triplet, tripled, walked, begun, passed}
-use Rattle.enumeration.proofs.Tree.{has, child, branch, conflict_at, ending, deeper, last}
+use Rattle.enumeration.proofs.Tree.{has, child, branch, conflict_at, ending, last}
 use Rattle.enumeration.proofs.Bits.{child_lt, has_split}
-use Rattle.searching.proofs.Words.{Rest, line_of, commanded, stand, standing, gathered, onto, Under, Idle}
+use Rattle.searching.proofs.Words.{Rest, line_of, commanded, stand, standing, gathered, Under, Idle}
 use Rattle.searching.proofs.Wire.{first_slot, second_slot, third_slot, first_level_lem, second_level_lem, after_reset_line_of, slots_reset, obeyed_search, ids_standing}
 
 -- ---- a triplet on the bridge
@@ -54,11 +53,11 @@ chosen_branch h d k a = go (h (suc k) (child false k a)) (h (suc k) (child true 
     go true false = refl
     go false o = refl
 
-noted_conflict_at : (h : ℕ → ℕ → Bool) (d : ℕ → Bool) (k a : ℕ) (c : Conflict) → noted (not (h (suc k) (child false k a))) (not (h (suc k) (child true k a))) (branch h d k a) k c ≡ onto (conflict_at h d k a) c
-unfolding noted conflict_at branch onto
+noted_conflict_at : (h : ℕ → ℕ → Bool) (d : ℕ → Bool) (k a : ℕ) (c : Option ℕ) → noted (not (h (suc k) (child false k a))) (not (h (suc k) (child true k a))) (branch h d k a) k c ≡ option_or (conflict_at h d k a) c
+unfolding noted conflict_at branch
 noted_conflict_at h d k a c = go (h (suc k) (child false k a)) (h (suc k) (child true k a)) (d k)
   where
-    go : (z o e : Bool) → cond (not z) c (cond (not o) c (cond (cond z (cond o e false) true) c (At k))) ≡ onto (cond z (cond o (cond e none (some k)) none) none) c
+    go : (z o e : Bool) → cond (not z) c (cond (not o) c (cond (cond z (cond o e false) true) c (Some k))) ≡ option_or (cond z (cond o (cond e None (Some k)) None) None) c
     go true true true = refl
     go true true false = refl
     go true false e = refl
@@ -101,10 +100,9 @@ module _ (ids : List ℕ) (rest : Rest) (d : ℕ → Bool) (k a : ℕ) (within :
 
 -- ---- a triplet of a pass
 
-onto_deeper : (p q : Option ℕ) (c : Conflict) → onto p (onto q c) ≡ onto (deeper p q) c
-unfolding onto deeper
-onto_deeper none q c = refl
-onto_deeper (some k) q c = refl
+or_deeper : (p q c : Option ℕ) → option_or p (option_or q c) ≡ option_or (option_or p q) c
+or_deeper None q c = refl
+or_deeper (Some k) q c = refl
 
 -- the bit joins the path
 id_child : (t : Bool) (k a : ℕ) → a + digit t * 2 ^ k ≡ child t k a
@@ -130,7 +128,7 @@ has_branch ids d k a below there =
     go false ez true eo e h = eo
     go false ez false eo e h = absurd (true≢false (sym h))
 
-module _ (ids : List ℕ) (rest : Rest) (i : ℕ) (c : Conflict) where
+module _ (ids : List ℕ) (rest : Rest) (i : ℕ) (c : Option ℕ) where
   module _ (k a : ℕ) (within : k < 64) (below : a < 2 ^ k) (there : has ids k a ≡ true) (w : Walk) (u : Under ids rest k a w) where
     -- the triplet's bridge
     shown : Bridge
@@ -153,7 +151,7 @@ module _ (ids : List ℕ) (rest : Rest) (i : ℕ) (c : Conflict) where
               ∙ id_child (branch (has ids) (direction i c) k a) k a;
         }
 
-    tripled_conflict : (took_triplet k shown w).conflict ≡ onto (conflict_at (has ids) (direction i c) k a) w.conflict
+    tripled_conflict : (took_triplet k shown w).conflict ≡ option_or (conflict_at (has ids) (direction i c) k a) w.conflict
     unfolding took_triplet shown
     tripled_conflict =
         ap₂ (λ (x y : Bool). noted x y shown.registers.status.dir k w.conflict)
@@ -165,7 +163,7 @@ module _ (ids : List ℕ) (rest : Rest) (i : ℕ) (c : Conflict) where
         ∙ noted_conflict_at (has ids) (direction i c) k a w.conflict
 
     -- where the triplet leaves the pass
-    tripled_on : Under ids rest (suc k) (child (branch (has ids) (direction i c) k a) k a) (tripled i c k w) × ((tripled i c k w).conflict ≡ onto (conflict_at (has ids) (direction i c) k a) w.conflict)
+    tripled_on : Under ids rest (suc k) (child (branch (has ids) (direction i c) k a) k a) (tripled i c k w) × ((tripled i c k w).conflict ≡ option_or (conflict_at (has ids) (direction i c) k a) w.conflict)
     tripled_on = (
       subst⁻¹ (Under ids rest (suc k) (child (branch (has ids) (direction i c) k a) k a)) tripled_shown tripled_under,
       ap (λ (v : Walk). v.conflict) tripled_shown ∙ tripled_conflict,
@@ -183,8 +181,8 @@ module _ (ids : List ℕ) (rest : Rest) (i : ℕ) (c : Conflict) where
 
   -- ---- the triplets of a pass
 
-  walked_on : (n k a : ℕ) → n + k ≡ 64 → a < 2 ^ k → has ids k a ≡ true → (w : Walk) → Under ids rest k a w → Under ids rest 64 (ending (has ids) (direction i c) n k a) (walked n k i c w) × ((walked n k i c w).conflict ≡ onto (last (has ids) (direction i c) n k a) w.conflict)
-  unfolding walked ending last onto
+  walked_on : (n k a : ℕ) → n + k ≡ 64 → a < 2 ^ k → has ids k a ≡ true → (w : Walk) → Under ids rest k a w → Under ids rest 64 (ending (has ids) (direction i c) n k a) (walked n k i c w) × ((walked n k i c w).conflict ≡ option_or (last (has ids) (direction i c) n k a) w.conflict)
+  unfolding walked ending last
   walked_on zero k a e below there w u = (subst (λ (j : ℕ). Under ids rest j a w) k_is u, refl)
     where
       k_is : k ≡ 64
@@ -197,8 +195,8 @@ module _ (ids : List ℕ) (rest : Rest) (i : ℕ) (c : Conflict) where
       (tripled i c k w) now.0 in (
         then.0,
         then.1
-            ∙ ap (onto (last (has ids) (direction i c) n (suc k) (child (branch (has ids) (direction i c) k a) k a))) now.1
-            ∙ onto_deeper (last (has ids) (direction i c) n (suc k) (child (branch (has ids) (direction i c) k a) k a))
+            ∙ ap (option_or (last (has ids) (direction i c) n (suc k) (child (branch (has ids) (direction i c) k a) k a))) now.1
+            ∙ or_deeper (last (has ids) (direction i c) n (suc k) (child (branch (has ids) (direction i c) k a) k a))
             (conflict_at (has ids) (direction i c) k a) w.conflict,
       )
 
@@ -283,7 +281,7 @@ module _ {ids : List ℕ} {rest : Rest} {b : Bridge} (t : Idle ids rest b) where
         path = refl;
       }
 
-  pub passed_on : (i : ℕ) (c : Conflict) → has ids 0 0 ≡ true → Under ids rest 64 (ending (has ids) (direction i c) 64 0 0) (passed i c (command (0xB4 ∷ []) b)) × ((passed i c (command (0xB4 ∷ []) b)).conflict ≡ onto (last (has ids) (direction i c) 64 0 0) Nowhere)
+  pub passed_on : (i : ℕ) (c : Option ℕ) → has ids 0 0 ≡ true → Under ids rest 64 (ending (has ids) (direction i c) 64 0 0) (passed i c (command (0xB4 ∷ []) b)) × ((passed i c (command (0xB4 ∷ []) b)).conflict ≡ option_or (last (has ids) (direction i c) 64 0 0) None)
   unfolding passed
   passed_on i c there = walked_on ids rest i c 64 0 0 refl (lit< tt) there _ searching_under
 

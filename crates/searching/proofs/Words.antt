@@ -6,7 +6,6 @@
 --   gathered n x c     what the low n bits of x, taken one by one, make of the code c
 --   stand s k a i      the probe i in slot s of bit k of a search whose path is a: deaf if it does not begin as a
 --   standing k a i     the same before bit k; after the last bit it is marked and selected
---   onto p c              the last conflict, where p was noted after c
 --   Under ids rest k a w  before bit k the pass w is on the path a
 --   Holds ids rest l      the line l has probes with the IDs ids, and `rest`
 --   Idle ids rest b       the bridge b has such a line and is at standard speed, and nothing is pending
@@ -15,7 +14,6 @@
 use Prim.Native.Nat.{ℕ, zero, suc, ◌+◌, ◌*◌, ◌/◌, ◌%◌, min, max}
 use mathlib.Core.Bool.{true, false, cond, ◌&&◌}
 use mathlib.Core.List.{List, [], ◌∷◌, ◌++◌, map}
-use mathlib.Core.Option.{Option, none, some}
 use mathlib.Core.Path.{◌≡◌}
 use lib.Dec.{eqb, leb}
 use lib.ListN.{length, take}
@@ -30,8 +28,6 @@ use Rattle.bridge.specs.declared.Bridge.{Bridge}
 use Rattle.bridge.specs.declared.Pending.TheVariants.{Nothing}
 use Rattle.bridge.specs.Bridge.{speed_of}
 use Rattle.enumeration.proofs.Tree.{begins}
-use Rattle.pass.specs.declared.Conflict.{Conflict}
-use Rattle.pass.specs.declared.Conflict.TheVariants.{At}
 use Rattle.pass.specs.declared.Walk.{Walk}
 use Rattle.pass.specs.Passes.{Result}
 
@@ -69,10 +65,6 @@ unfoldable pub standing : ℕ → ℕ → ℕ → Probe
 standing k a i = cond (begins k a i) (cond (leb 64 k) (marked_selected i) (searching_in First k i)) (deaf_new i)
 
 -- ---- a pass
-
-unfoldable pub onto : Option ℕ → Conflict → Conflict
-onto none c = c
-onto (some k) c = At k
 
 pub record Under (ids : List ℕ) (rest : Rest) (k a : ℕ) (w : Walk) : Type 0 where
   pub line : w.bridge.line ≡ line_of (map (standing k a) ids) rest

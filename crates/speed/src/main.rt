@@ -10,56 +10,47 @@
 // After each work it prints the status and the read-data byte, and for f before them the CRC-16 of the list.
 #![tactic(auto)]
 
-ghost use Rattle.std.specs.Prelude.{◌≤◌, length};
-
 use bridge::Bridge;
 use std::io;
 use std::io::Read;
 
+// The most letters of the input that are read.
+const MOST: usize = 120;
+
 // The ID of family 19h with this serial number.
+// As it is: other programs fit IDs so too, but programs share no code, and these lines in a library would be no plainer.
 fn of_serial(n: u8) -> [u8; 8] {
     let mut id = [0x19, n, 0, 0, 0, 0, 0, 0];
-    let first = [0x19, n, 0, 0, 0, 0, 0];
-    id[7] = checksum::crc8(&first);
+    let crc = checksum::crc8(&id[..7]);
+    id[7] = crc;
     id
-}
-
-fn with_one_more(bridge: Bridge, n: u8) -> Bridge {
-    let id = of_serial(n);
-    bridge.fit(&id).bridge
 }
 
 fn with_64() -> Bridge {
     let mut bridge = Bridge::power_on();
-    let mut i: u8 = 1;
-    while i < 65 {
-        bridge = with_one_more(bridge, i);
-        i += 1;
+    for n in 1..65 {
+        bridge = bridge.fit(&of_serial(n)).unwrap_or(bridge);
     }
     bridge
 }
 
-fn bytes_after(bridge: Bridge) -> Bridge {
-    let mut b = bridge;
-    let mut i: u8 = 0;
-    while i < 8 {
-        b = pass::command(b, &[0xA5, i]);
-        i += 1;
+fn bytes_after(mut bridge: Bridge) -> Bridge {
+    for byte in 0..8 {
+        bridge = pass::command(bridge, &[Bridge::WRITE_BYTE, byte]);
     }
-    b
+    bridge
 }
 
 // One command so many times.
-fn repeated(bridge: Bridge, times: u8, bytes: &[u8]) -> Bridge {
-    let mut b = bridge;
-    let mut i: u8 = 0;
-    while i < times {
-        b = pass::command(b, bytes);
-        i += 1;
+// As it is: the cases of the search have these lines too, but programs share no code; a library for a loop of three lines would be no plainer.
+fn repeated(mut bridge: Bridge, times: u8, bytes: &[u8]) -> Bridge {
+    for _ in 0..times {
+        bridge = pass::command(bridge, bytes);
     }
-    b
+    bridge
 }
 
+// As it is: a letter of the input says which work is done, and no caller hands one in.
 fn round(bridge: Bridge, work: u8) -> Bridge {
     let reset = pass::command(bridge, &[0xB4]);
     match work {
@@ -72,32 +63,20 @@ fn round(bridge: Bridge, work: u8) -> Bridge {
     }
 }
 
-fn searched(bridge: Bridge, list: &mut [u8; 512]) -> Bridge {
-    search::search(bridge, 65535, list).bridge
-}
-
-fn listed(rt: &impl Print, list: &[u8; 512]) -> io::Result<()> {
-    let sum = checksum::crc16(list);
-    print!(rt; "{sum:04x} ")
-}
-
 // A full search; the checksum of its list is printed.
 fn full_search(rt: &impl Print, before: Bridge) -> io::Result<Bridge> {
-    let mut list = [0u8; 512];
-    let bridge = searched(before, &mut list);
-    listed(rt, &list)?;
-    Ok(bridge)
+    let mut list = [0; 512];
+    let searched = search::search(before, 65535, &mut list);
+    print!(rt; "{:04x} ", checksum::crc16(&list))?;
+    Ok(searched.map_or(before, |s| s.bridge))
 }
 
-fn rounds(rt: &impl Print, before: Bridge, work: u8) -> io::Result<Bridge> {
+fn rounds(rt: &impl Print, mut bridge: Bridge, work: u8) -> io::Result<Bridge> {
     if work == b'f' {
-        return full_search(rt, before);
+        return full_search(rt, bridge);
     }
-    let mut left: u32 = 100;
-    let mut bridge = before;
-    while 0 < left {
+    for _ in 0..100 {
         bridge = round(bridge, work);
-        left -= 1;
     }
     Ok(bridge)
 }
@@ -117,43 +96,25 @@ fn slowed(bridge: Bridge) -> Bridge {
 }
 
 fn worked(rt: &impl Print, before: Bridge, work: u8) -> io::Result<Bridge> {
-    match work {
-        b'A'..=b'Z' => Ok(slowed(rounds(rt, quickened(before), work + 32)?)),
-        _ => rounds(rt, before, work),
+    if work.is_ascii_uppercase() {
+        let after = rounds(rt, quickened(before), work.to_ascii_lowercase())?;
+        Ok(slowed(after))
+    } else {
+        rounds(rt, before, work)
     }
 }
 
 fn shown(rt: &impl Print, bridge: Bridge) -> io::Result<()> {
-    let status = bridge.read();
-    let answer = bridge.write(&[0xE1, 0xE1]);
-    let pointed = answer.bridge;
-    let readout = pointed.read();
-    print!(rt; "{status:02x} {readout:02x}\n")
+    let pointed = bridge.write(&[0xE1, 0xE1]).unwrap_or(bridge);
+    println!(rt; "{:02x} {:02x}", bridge.read(), pointed.read())
 }
 
-// Reads until the buffer is full, the input ends or a read fails, and answers how many bytes that is.
-fn read_full(input: &mut impl Read, buf: &mut [u8]) -> usize
-    ensures { result ≤ length buf.new }
-{
-    let mut done = 0;
-    while done < buf.len() {
-        match input.read(&mut buf[done..]) {
-            Ok(n) if 0 < n => done += n,
-            _ => break,
-        }
-    }
-    done
-}
-
+// A letter that cannot be read ends the input.
 fn main(rt: HostRuntime) -> io::Result<()> {
-    let mut works = [0; 120];
-    let n = read_full(&mut rt.stdin(), &mut works);
     let mut bridge = with_64();
-    let mut i = 0;
-    while i < n {
-        bridge = worked(&rt, bridge, works[i])?;
+    for work in rt.stdin().bytes().take(MOST).map_while(Result::ok) {
+        bridge = worked(&rt, bridge, work)?;
         shown(&rt, bridge)?;
-        i += 1;
     }
     Ok(())
 }

@@ -5,27 +5,32 @@
 --   registers_reset p r     the registers after a 1-Wire Reset that met the presence p; and so registers_bit, registers_byte and
 --                           registers_triplet
 --   after_time_on s         the station after time has passed
+--   number_returned e       the number of the refusal e of fitting a chip
+--   number_in r             the number that the result r of fitting a chip stands for
+--   station_in s r          the station after a call on the station s with the result r
 --   chip_number x a b       the number that fitting a chip with the ID of the bytes x and the address a gives
 --   after_chip x a s        the station after that
 --   after_removal x s       the station after withdrawing the ID of the bytes x
 --   command_on x s          the station after the write x and time passing
 --   is_quiet s              no chip has a part in what is pending
-use Rattle.std.specs.Prelude.{ℕ, ◌+◌, Bool, true, false, cond, List, eqb, leb, set}
+use Rattle.std.specs.Prelude.{ℕ, ◌+◌, Bool, true, false, cond, List, eqb, leb, set, Result, Ok, Err}
 use Rattle.identity.specs.Identity.{number_of, family_of, refusal_of}
-use Rattle.line.specs.Line.{present, after_reset, place_number}
+use Rattle.line.specs.Line.{present, after_reset, place_number, number_returned as line_number}
 use Rattle.triplet_slots.specs.Triplet.{chosen}
 use Rattle.withdrawal.specs.Withdrawal.{withdraw_number}
 use Rattle.bridge.specs.declared.Pending.{Pending}
 use Rattle.bridge.specs.declared.Pending.TheVariants.{Nothing, Reset, SingleBit, WriteByte, ReadByte, Triplet}
 use Rattle.bridge.specs.declared.Registers.{Registers}
 use Rattle.bridge.specs.declared.Bridge.{Bridge}
-use Rattle.bridge.specs.Bridge.{power_on, speed_of, finished, with_presence, with_levels, after_write, after_fitting, after_withdrawal}
+use Rattle.bridge.specs.Bridge.{number_by, power_on, speed_of, finished, with_presence, with_levels, after_write, after_fitting, after_withdrawal}
 use Rattle.chip.specs.Chip.{new_chip}
 use Rattle.wire.specs.declared.Chips.{Chips}
 use Rattle.wire.specs.declared.Wire.{Wire}
 use Rattle.wire.specs.Wire.{no_chips, level_on, slot_on, slots_on, levels_on, second_on, triplet_on, emptied_on, chips_without}
 use Rattle.wire.specs.Calm.{all_calm}
 use Rattle.station.specs.declared.Station.{Station}
+use Rattle.station.specs.declared.Refusal.{Refusal}
+use Rattle.station.specs.declared.Refusal.TheVariants.{Line, Family, Address}
 
 -- ---- the state
 
@@ -118,6 +123,19 @@ unfoldable pub command_on : List ℕ → Station → Station
 command_on x s = after_time_on (on_bridge (after_write x s.bridge) s)
 
 -- ---- fitting a chip
+
+abbrev pub number_returned : Refusal → ℕ
+number_returned (Line e) = line_number e
+number_returned Family = 21
+number_returned Address = 22
+
+abbrev pub number_in : {T : Type 0} → Result T Refusal → ℕ
+number_in r = number_by number_returned r
+
+-- A refused call leaves the station as it was.
+abbrev pub station_in : {E : Type 0} → Station → Result Station E → Station
+station_in s (Ok t) = t
+station_in s (Err e) = s
 
 -- A chip is of family 19h.
 abbrev pub chip_family : ℕ

@@ -3,25 +3,24 @@
 --   put_more            what is put behind a text joins it
 --   put_same            by another name of the text
 --   put_front           text at the front of the buffer
---   put_two, put_three  two stores, and three
+--   puts_more, puts_same    the same of lines
 --   digits_one, digits_pair     a number of one digit, and of two
 --   digits_hundreds     a number of more: what stands before its last two digits, and those
 --   length_decimal      five digits at most
---   hex_digit_low, _high         a digit below 10, and a letter
---   behind_number_lem, behind_byte  what stands behind an event's number, for a number below 10 and for a byte
-use mathlib.Core.Path.{◌≡◌, refl, sym, ap, ap₂, ◌∙◌, subst}
+--   behind_number_lem   what stands behind an event's number, for a number below 10
+use mathlib.Core.Path.{◌≡◌, sym, ap, ap₂, ◌∙◌, subst}
 use mathlib.Core.Bool.{Bool, true, false, cond}
 use mathlib.Core.List.{List, [], ◌∷◌, ◌++◌, append_assoc}
 use Prim.Native.Nat.{ℕ, zero, suc, ◌+◌, ◌/◌, ◌%◌, ◌<◌, ◌≤◌}
 use native.Mathlib.Nat.{add-zero, zero-add}
-use native.Mathlib.Numerals.{add-one, add-two}
 use native.Mathlib.Omega.{arith}
 use lib.Dec.{ltb}
 use lib.ListN.{length, set, drop, length-append}
 use lib.Seq.{sets, sets-eq}
 use borrow.Author.Tests.{lt-ltb, le-ltb}
-use Rattle.transcript.specs.Text.{Put, pair_of, behind_number}
-use Rattle.transcript.specs.Transcript.{digits_of, decimal, hex_digit, hexadecimal}
+use Rattle.transcript.specs.Text.{Put, Puts, pair_of, behind_number}
+use Rattle.transcript.specs.declared.text.Lines.{Lines}
+use Rattle.transcript.specs.Transcript.{digits_of, decimal}
 
 -- ---- a run of stores
 
@@ -41,15 +40,11 @@ put_more {d} {e} {f} {k} {r} {q} {t} {u} p n =
 pub put_same : {d e : List ℕ} {k r : ℕ} {t u : List ℕ} → Put d e k r t → t ≡ u → Put d e k r u
 put_same {d} {e} {k} {r} p same = subst (λ (x : List ℕ). Put d e k r x) same p
 
-pub put_two : (d : List ℕ) (k a b : ℕ) → Put d (set (set d k a) (k + 1) b) k (k + 2) (a ∷ b ∷ [])
-put_two d k a b = record { content = ap (λ (j : ℕ). set (set d k a) j b) (add-one k); end = refl }
+pub puts_more : {a b c : Lines} {t u : List ℕ} → Puts a b t → Puts b c u → Puts a c (t ++ u)
+puts_more {a} {b} {c} {t} {u} p q = record { put = put_more p.put q.put; same = q.same ∙ p.same }
 
-pub put_three : (d : List ℕ) (k a b c : ℕ) → Put d (set (set (set d k a) (k + 1) b) (k + 2) c) k (k + 3) (a ∷ b ∷ c ∷ [])
-put_three d k a b c =
-    record {
-      content = ap₂ (λ (i j : ℕ). set (set (set d k a) i b) j c) (add-one k) (add-two k);
-      end = refl;
-    }
+pub puts_same : {a b : Lines} {t u : List ℕ} → Puts a b t → t ≡ u → Puts a b u
+puts_same {a} {b} {t} {u} p same = record { put = put_same p.put same; same = p.same }
 
 pub put_front : {d e : List ℕ} {r : ℕ} {t : List ℕ} → Put d e 0 r t → r ≤ length d → (r ≡ length t) × (e ≡ t ++ drop (length t) d)
 put_front {d} {e} {r} {t} p h =
@@ -94,16 +89,6 @@ pub length_decimal : (n : ℕ) → length (decimal n) ≤ 5
 unfolding decimal
 length_decimal n = length_digits_of 5 n
 
--- ---- hexadecimal digits
-
-pub hex_digit_low : (d : ℕ) → d < 10 → 48 + d ≡ hex_digit d
-unfolding hex_digit
-hex_digit_low d h = simp (lt-ltb d 10 h)
-
-pub hex_digit_high : (d : ℕ) → 10 ≤ d → 55 + d ≡ hex_digit d
-unfolding hex_digit
-hex_digit_high d h = simp (le-ltb d 10 h)
-
 -- ---- behind an event's number
 
 decimal_one : (n : ℕ) → n < 10 → decimal n ≡ (48 + n) ∷ []
@@ -113,7 +98,3 @@ decimal_one n h = digits_one 4 n h
 pub behind_number_lem : (l v : ℕ) → v < 10 → (0x20 ∷ l ∷ 0x20 ∷ []) ++ ((48 + v) ∷ 0x0A ∷ []) ≡ behind_number l (decimal v)
 unfolding behind_number
 behind_number_lem l v h = ap (λ (t : List ℕ). (0x20 ∷ l ∷ 0x20 ∷ []) ++ t ++ (0x0A ∷ [])) (sym (decimal_one v h))
-
-pub behind_byte : (l x : ℕ) → (0x20 ∷ l ∷ 0x20 ∷ []) ++ (hex_digit (x / 16) ∷ hex_digit (x % 16) ∷ 0x0A ∷ []) ≡ behind_number l (hexadecimal x)
-unfolding behind_number hexadecimal
-behind_byte l x = refl

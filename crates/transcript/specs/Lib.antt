@@ -1,3 +1,2 @@
-pub mod Event
 pub mod Text
 pub mod Transcript

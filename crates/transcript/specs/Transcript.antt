@@ -7,17 +7,18 @@
 --   lines_from s n i k b the lines of n events, numbered from i, from bit k on, run on the bridge b
 --   lines_of s           the lines of all events of s
 --   script_number s      the number that the run gives for s
+--   number_of e          the number of the refusal e
 --   run_of s             what the run answers
 --   run_number r         document 01's number of the answer r
 --   run_values r         its values: how many bytes were written
 --   run_buffer s d       the lent buffer d afterwards
-use Rattle.std.specs.Prelude.{ℕ, zero, suc, ◌+◌, ◌/◌, ◌%◌, cond, List, [], ◌∷◌, ◌++◌, eqb, ltb, length, drop}
+use Rattle.std.specs.Prelude.{ℕ, zero, suc, ◌+◌, ◌/◌, ◌%◌, cond, List, [], ◌∷◌, ◌++◌, eqb, ltb, length, drop, Result, Ok, Err}
 use Rattle.line.specs.Line.{fit_number}
 use Rattle.bridge.specs.declared.Bridge.{Bridge}
 use Rattle.bridge.specs.Bridge.{power_on, read_of, write_number, after_write, after_time, after_fitting}
 use Rattle.script.specs.Script.{bytes_at, count_of, kind_at, length_at, size_at, is_script}
-use Rattle.transcript.specs.declared.Run.{Run}
-use Rattle.transcript.specs.declared.Run.TheVariants.{Done, Refused}
+use Rattle.transcript.specs.declared.Refusal.{Refusal}
+use Rattle.transcript.specs.declared.Refusal.TheVariants.{Malformed}
 
 -- ---- numbers as text
 
@@ -86,17 +87,21 @@ lines_of s = lines_from s (count_of s) 1 16 power_on
 unfoldable pub script_number : List ℕ → ℕ
 script_number s = cond (is_script s) 0 15
 
-unfoldable pub run_of : List ℕ → Run
-run_of s = cond (eqb (script_number s) 0) (Done (length (lines_of s))) (Refused (script_number s))
+-- Its number in the table of document 01.
+abbrev pub number_of : Refusal → ℕ
+number_of Malformed = 15
+
+unfoldable pub run_of : List ℕ → Result ℕ Refusal
+run_of s = cond (eqb (script_number s) 0) (Ok (length (lines_of s))) (Err Malformed)
 
 -- What an answer means. A run that was done has the number 0; a refusal returns its number alone.
-abbrev pub run_number : Run → ℕ
-run_number (Done len) = 0
-run_number (Refused number) = number
+abbrev pub run_number : Result ℕ Refusal → ℕ
+run_number (Ok len) = 0
+run_number (Err e) = number_of e
 
-abbrev pub run_values : Run → List ℕ
-run_values (Done len) = len ∷ []
-run_values (Refused number) = []
+abbrev pub run_values : Result ℕ Refusal → List ℕ
+run_values (Ok len) = len ∷ []
+run_values (Err e) = []
 
 -- The lines lie at the front of the buffer; bytes behind them stay. A refused script changes no byte.
 unfoldable pub run_buffer : List ℕ → List ℕ → List ℕ

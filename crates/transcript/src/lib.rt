@@ -8,157 +8,139 @@
 
 mod text;
 
-ghost use Rattle.std.specs.Prelude.{◌≡◌, true, ◌+◌, ◌≤◌, length, take};
-ghost use Rattle.line.specs.Line.{fit_number};
-ghost use Rattle.bridge.specs.Bridge.{power_on, write_number, after_write, after_fitting};
-ghost use Rattle.script.specs.Script.{bytes_at, count_of, is_script};
-ghost use Rattle.transcript.specs.Text.{Put};
-ghost use Rattle.transcript.specs.Event.{EventAt};
-ghost use Rattle.transcript.specs.Transcript.{lines_from, run_of, run_buffer};
+ghost use Rattle.std.specs.Prelude.{◌≡◌, true, ◌+◌, ◌*◌, ◌^◌, ◌<◌, ◌≤◌, length, take};
+ghost use Rattle.bridge.specs.Bridge.{power_on, after_time};
+ghost use Rattle.script.specs.Script.{bytes_at, count_of, event_at, is_script};
+ghost use Rattle.transcript.specs.Text.{Put, Puts, behind_number};
+ghost use Rattle.transcript.specs.Transcript.{step_at, lines_from, number_of, run_of, run_buffer};
 
-use bridge::{Answer, Bridge, Pending};
+use bridge::{Bridge, Pending};
+use script::{Event, Reader};
+use text::Lines;
 
 // The most bytes that a run writes: 16,376 events of two bits fill the longest script, and no line is longer than 11 bytes.
 pub const MOST: usize = 180136;
 
-// The refusal of a script that is not of its form, by its number in the table of document 01.
-pub const REFUSED: u8 = 15;
-
-#[derive(Clone, Copy)]
-pub enum Run {
-    // So many bytes were written.
-    Done { len: usize },
-    Refused { number: u8 },
+// Why no event of a script is run.
+#[derive(Clone, Copy, PartialEq, Eq)]
+pub enum Refusal {
+    Malformed,
 }
 
-// An event: its kind, and how many bytes it has from which place on. A read and a wait have none.
-#[derive(Clone, Copy)]
-struct Event {
-    kind: u32,
-    n: usize,
-    bytes: usize,
-}
-
-// The event at a place.
-fn event_at(script: &[u8], place: usize) -> Event
-    requires { place ≤ 4900000 }
-    ensures { EventAt script.now place result.kind result.n result.bytes }
-{
-    let event = script::bits_from(script, place, script::KIND);
-    let kind = event.number;
-    match kind {
-        script::WRITE => {
-            let length = script::bits_from(script, event.next, script::LENGTH);
-            Event {
-                kind,
-                n: length.number as usize,
-                bytes: length.next,
-            }
+impl Refusal {
+    // Its number in the table of document 01.
+    pub fn number(self) -> u8
+        ensures { result ≡ number_of self }
+    {
+        match self {
+            Refusal::Malformed => 15,
         }
-        script::FIT => Event {
-            kind,
-            n: 8,
-            bytes: event.next,
-        },
-        _ => Event {
-            kind,
-            n: 0,
-            bytes: event.next,
-        },
     }
 }
 
-// The n bytes from a place of the script on, at the front of an array.
-fn gathered(script: &[u8], place: usize, n: usize) -> [u8; 8]
-    requires { (n ≤ 8) × (place ≤ 4900000) }
-    ensures { (length result ≡ 8) × (take n result ≡ bytes_at script.now place n) }
+// The n bytes from the reader's place on, at the front of an array.
+// As it is: fixed memory; a write takes the first n, a fitting all eight, and the contract is over `take n`.
+fn gathered(mut reader: Reader, n: usize) -> [u8; 8]
+    requires { (n ≤ 8) × (reader.place + 8 * n < 2 ^ 64) }
+    ensures { (length result ≡ 8) × (take n result ≡ bytes_at reader.entry.script.now reader.entry.place n) }
 {
     let mut bytes = [0u8; 8];
-    let mut at = place;
-    let mut i = 0;
-    while i < n {
-        let byte = script::bits_from(script, at, script::BYTE);
-        bytes[i] = byte.number as u8;
-        at = byte.next;
-        i += 1;
+    for byte in &mut bytes[..n] {
+        let piece = reader.bits(script::BYTE);
+        *byte = piece.number as u8;
+        reader.place = piece.next;
     }
     bytes
 }
 
-// The write whose n bytes begin at a place.
-fn written(script: &[u8], place: usize, n: usize, bridge: Bridge) -> Answer
-    requires { (n ≤ 3) × (place ≤ 4900000) }
-    ensures { (result.number ≡ write_number (bytes_at script.now place n) bridge)
-        × (result.bridge ≡ after_write (bytes_at script.now place n) bridge) }
+// What is pending has its effect. A function pays at entry for its locals, and a bridge is a large one, so a wait with nothing pending
+// does not come here.
+#[inline(never)]
+fn finish(bridge: &mut Bridge)
+    ensures { bridge.new ≡ after_time bridge.old }
 {
-    let bytes = gathered(script, place, n);
-    bridge.write(&bytes[..n])
+    *bridge = bridge.wait();
 }
 
-// The fitting whose ID begins at a place.
-fn fitted(script: &[u8], place: usize, bridge: Bridge) -> Answer
-    requires { place ≤ 4900000 }
-    ensures { (result.number ≡ fit_number (bytes_at script.now place 8) bridge.line)
-        × (result.bridge ≡ after_fitting (bytes_at script.now place 8) bridge) }
+// Lets time pass. With nothing pending the bridge stays where it is.
+#[tactic(auto, unfolding(bridge::specs::Bridge::after_time, bridge::specs::Bridge::finished_of))]
+fn pass_time(bridge: &mut Bridge)
+    ensures { bridge.new ≡ after_time bridge.old }
 {
-    let id = gathered(script, place, 8);
-    bridge.fit(&id)
+    match bridge.registers.pending {
+        Pending::Nothing => {}
+        _ => finish(bridge),
+    }
 }
 
-// The events of a well-formed script, each with its line. Each kind has its own way round the loop, so that a read, and a wait with
-// nothing pending, move no bridge.
+// Runs the event at the reader's place and puts what stands behind its number. Each kind has its own way through, so that a read, a
+// wait with nothing pending and what is refused move no bridge.
+// As it is: the event says which step is taken; one function for both answers would take the letter and two closures to spare a few lines.
+fn step(reader: Reader, event: Event, bridge: &mut Bridge, lines: &mut Lines)
+    requires event_is { event ≡ event_at reader.script.now reader.place }
+    requires place_fits { reader.place + 66 < 2 ^ 64 }
+    requires room { lines.old.len + 6 ≤ length lines.old.out.now }
+    ensures bridge_after { bridge.new ≡ (step_at reader.entry.script.now reader.entry.place bridge.old).bridge }
+    ensures puts { let t = step_at reader.entry.script.now reader.entry.place bridge.old in
+        Puts lines.old lines.new (behind_number t.letter t.value) }
+    ensures upper_bound { lines.new.len ≤ lines.old.len + 6 }
+{
+    match event {
+        Event::Write { n } => {
+            let n = n as usize;
+            let bytes = gathered(reader.moved(reader.place + script::HEAD), n);
+            match bridge.write(&bytes[..n]) {
+                Ok(after) => {
+                    lines.number(b'W', 0);
+                    *bridge = after;
+                }
+                Err(refusal) => lines.number(b'W', refusal.number()),
+            }
+        }
+        Event::Read => lines.hexadecimal(bridge.read()),
+        Event::Wait => {
+            lines.number(b'T', 0);
+            pass_time(bridge);
+        }
+        Event::Fit => {
+            let id = gathered(reader.moved(reader.place + script::KIND), 8);
+            match bridge.fit(&id) {
+                Ok(after) => {
+                    lines.number(b'F', 0);
+                    *bridge = after;
+                }
+                Err(refusal) => lines.number(b'F', refusal.number()),
+            }
+        }
+    }
+}
+
+// The events of a well-formed script, each with its line.
 fn lines(script: &[u8], out: &mut [u8]) -> usize
     requires { (is_script script.now ≡ true) × (180136 ≤ length out.old) }
     ensures { (Put out.old out.new 0 result (lines_from script.now (count_of script.now) 1 16 power_on)) × (result ≤ 180136) }
 {
-    let count = script::count_of(script);
+    let mut lines = Lines { out, len: 0 };
     let mut bridge = Bridge::power_on();
-    let mut number: u16 = 1;
-    let mut place = script::FIRST;
-    let mut at: usize = 0;
-    while number <= count {
-        let next = text::put_decimal(out, at, number);
-        number += 1;
-        let event = event_at(script, place);
-        place = event.bytes + 8 * event.n;
-        let kind = event.kind;
-        match kind {
-            script::WRITE => {
-                let answer = written(script, event.bytes, event.n, bridge);
-                at = text::put_number(out, next, b'W', answer.number);
-                bridge = answer.bridge;
-            }
-            script::READ => at = text::put_byte(out, next, bridge.read()),
-            script::WAIT => {
-                at = text::put_number(out, next, b'T', 0);
-                let registers = bridge.registers;
-                let pending = registers.pending;
-                match pending {
-                    Pending::Nothing => {}
-                    _ => bridge = bridge.wait(),
-                }
-            }
-            _ => {
-                let answer = fitted(script, event.bytes, bridge);
-                at = text::put_number(out, next, b'F', answer.number);
-                bridge = answer.bridge;
-            }
-        }
+    let mut reader = Reader::opened(script).moved(script::FIRST);
+    for before in 0..script::count_of(script) {
+        lines.decimal(before + 1);
+        let event = reader.event();
+        step(reader, event, &mut bridge, &mut lines);
+        reader.place += event.size();
     }
-    at
+    lines.len
 }
 
 // Runs a script. Its lines come to lie at the front of the buffer; a refused script changes no byte.
-pub fn transcript(script: &[u8], out: &mut [u8; MOST]) -> Run
+// As it is: `run_of` gives the length, and `run_buffer` what all of `out` holds, on a refusal too.
+pub fn transcript(script: &[u8], out: &mut [u8; MOST]) -> Result<usize, Refusal>
     ensures value { result ≡ run_of script.now }
     ensures out_after { out.new ≡ run_buffer script.now out.old }
 {
     if script::is_script(script) {
-        let lent: &mut [u8] = out;
-        Run::Done {
-            len: lines(script, lent),
-        }
+        Ok(lines(script, out))
     } else {
-        Run::Refused { number: REFUSED }
+        Err(Refusal::Malformed)
     }
 }

@@ -10,11 +10,9 @@
 ghost use Rattle.std.specs.Prelude.{◌≡◌};
 ghost use Rattle.checksum.specs.Register.{crc8_of, crc16_of};
 ghost use Rattle.packet.specs.Request.{write, read, write_read};
-ghost use Rattle.forming.specs.Forming.{form_number, formed};
+ghost use Rattle.forming.specs.Forming.{number_in, form_number, formed};
 ghost use Rattle.reading.specs.Reading.{reading_of};
 ghost use Rattle.trelvox.specs.Answer.{answer_of, numbers_of};
-
-use reading::Reading;
 
 #[unsafe(no_mangle)]
 pub extern "C" fn trelvox_crc8(bytes: &[u8]) -> u8
@@ -30,12 +28,23 @@ pub extern "C" fn trelvox_crc16(bytes: &[u8]) -> u16
     checksum::crc16(bytes)
 }
 
+// The number of what forming gives: 0 where it does not refuse.
+// As it is: C takes numbers, and the forms have three names there (include/trelvox.h); reading's `number_in` is of other refusals.
+fn number_in(formed: Result<(), forming::Refusal>) -> u8
+    ensures { result ≡ number_in formed }
+{
+    match formed {
+        Ok(()) => 0,
+        Err(refusal) => refusal.number(),
+    }
+}
+
 #[unsafe(no_mangle)]
 pub extern "C" fn trelvox_form_write(address: u32, data: &[u8], buffer: &mut [u8]) -> u8
     ensures value { result ≡ form_number (write address «data».now) buffer.old }
     ensures buffer_after { buffer.new ≡ formed (write address «data».now) buffer.old }
 {
-    forming::form_write(address, data, buffer)
+    number_in(forming::form_write(address, data, buffer))
 }
 
 #[unsafe(no_mangle)]
@@ -43,7 +52,7 @@ pub extern "C" fn trelvox_form_read(address: u32, count: u32, buffer: &mut [u8])
     ensures value { result ≡ form_number (read address count) buffer.old }
     ensures buffer_after { buffer.new ≡ formed (read address count) buffer.old }
 {
-    forming::form_read(address, count, buffer)
+    number_in(forming::form_read(address, count, buffer))
 }
 
 #[unsafe(no_mangle)]
@@ -56,26 +65,25 @@ pub extern "C" fn trelvox_form_write_read(
     ensures value { result ≡ form_number (write_read address «data».now count) buffer.old }
     ensures buffer_after { buffer.new ≡ formed (write_read address «data».now count) buffer.old }
 {
-    forming::form_write_read(address, data, count, buffer)
+    number_in(forming::form_write_read(address, data, count, buffer))
 }
 
 // The parts are the code, the address, where the data starts, how long it is, and R; a refused packet leaves them as they were.
+// As it is: C takes number and place as one number, and lends five numbers for the parts (include/trelvox.h).
 #[unsafe(no_mangle)]
 pub extern "C" fn trelvox_read(packet: &[u8], parts: &mut [usize; 5]) -> u32
     ensures value { result ≡ answer_of (reading_of packet.now) }
     ensures parts_after { parts.new ≡ numbers_of (reading_of packet.now) parts.old }
 {
     let reading = reading::read(packet);
-    let Reading::Parts {
-        code,
-        address,
-        start,
-        len,
-        count,
-    } = reading
-    else {
-        return reading.number() as u32 + reading.place() as u32 * 256;
-    };
-    *parts = [code as usize, address as usize, start, len, count as usize];
-    0
+    if let Ok(read) = reading {
+        *parts = [
+            usize::from(read.code),
+            usize::from(read.address),
+            read.start,
+            read.len,
+            usize::from(read.count),
+        ];
+    }
+    u32::from(reading::number_in(reading)) + u32::from(reading::place_in(reading)) * 256
 }

@@ -1,2 +1,3 @@
+pub mod ThreeSlots
 pub mod Settled
 pub mod Unique

@@ -1,19 +1,20 @@
 -- The three slots of a triplet on a line where all is settled.
 --   either_way                              a settled probe rests, or is reached in the first slot of a search bit
 --   sends_after v a p                        what p lets the line be in the slot after one of level a
---   rests_after, first_sent, second_sent    what such a probe sends in the first two slots
+--   sends_resting, sends_first              what such a probe sends in the first two slots
 --   second_level_lem                            the level of a second write-one slot
 --   triplet_settled                         the line after the triplet
---   outcome, decided_by                     what a searching probe is then, by whether the level is its bit and that the last
---   all_passes                              a test of the first entries of a table, where one more passes it
+--   decided_on, decided_last, decided_off     what a searching probe is then: the level is its bit, and that the last; the level is not
+--   all_more                                a test of the first entries of a table, with one more
 use mathlib.Core.Path.{◌≡◌, refl, sym, ap, ap₂, ◌∙◌}
-use mathlib.Core.Bool.{Bool, true, false, cond, not, false≢true}
+use mathlib.Core.Bool.{Bool, true, false, cond, not, ◌&&◌, false≢true}
 use mathlib.Core.List.{List, [], ◌∷◌}
-use Prim.Native.Nat.{ℕ, zero, suc, ◌+◌, ◌<◌}
+use Prim.Native.Nat.{ℕ, zero, suc, ◌+◌, ◌<◌, ◌≤◌}
 use native.Mathlib.Numerals.{add-one}
 use native.Mathlib.Omega.{arith}
 use lib.Dec.{leb}
 use lib.ListN.{length, get_or, take}
+use borrow.Author.Tests.{le-leb, lt-leb}
 use Rattle.identity.specs.Identity.{bit_of}
 use Rattle.probe.specs.declared.Slot.{Slot}
 use Rattle.probe.specs.declared.Slot.TheVariants.{First, Second, Third}
@@ -27,7 +28,7 @@ use Rattle.line.specs.declared.Line.{Line}
 use Rattle.line.specs.Line.{all, fitted, on_fitted, level, slot}
 use Rattle.line.proofs.Front.{both, first_of, rest_of}
 use Rattle.line.proofs.Each.{all_map, all_of_map, fitted_on_fitted, on_fitted_on_fitted, on_fitted_same}
-use Rattle.triplet_slots.specs.Triplet.{written_bit, after_triplet, is_first, settled, settled_in, decided, decided_in}
+use Rattle.triplet_slots.specs.Triplet.{written_bit, after_triplet, is_first, settled, settled_in, Sends, decided, decided_in}
 
 -- ---- one probe
 
@@ -49,8 +50,7 @@ either_way {A} v p e f g = go p.condition refl e
     go (Searching k s) q h = at k s q h
     go Selected q h = f (ap rests_in q)
 
--- what settles it, the other way round
-pub settled_rests : (v : ℕ) (p : Probe) → rests p ≡ true → settled v p ≡ true
+settled_rests : (v : ℕ) (p : Probe) → rests p ≡ true → settled v p ≡ true
 unfolding settled settled_in rests rests_in
 settled_rests v p e = go p.condition e
   where
@@ -62,14 +62,14 @@ settled_rests v p e = go p.condition e
     go (Searching k s) h = absurd (false≢true h)
     go Selected h = refl
 
-pub settled_first : (v k : ℕ) (p : Probe) → p.condition ≡ Searching k First → reaches v p ≡ true → settled v p ≡ true
+settled_first : (v k : ℕ) (p : Probe) → p.condition ≡ Searching k First → reaches v p ≡ true → settled v p ≡ true
 unfolding settled settled_in
 settled_first v k p e r = ap (settled_in (reaches v p)) e ∙ both (reaches v p) true r refl
 
 abbrev pub sends_after : ℕ → Bool → Probe → Bool
 sends_after v a p = sends_at v (took_at v a p)
 
-pub rests_after : (v : ℕ) (a : Bool) (p : Probe) → rests p ≡ true → sends_after v a p ≡ true
+rests_after : (v : ℕ) (a : Bool) (p : Probe) → rests p ≡ true → sends_after v a p ≡ true
 rests_after v a p e = ap (sends_at v) (took_at_rests v a p e) ∙ sends_at_rests v p e
 
 module _ (v k : ℕ) (p : Probe) (e : p.condition ≡ Searching k First) (r : reaches v p ≡ true) where
@@ -82,11 +82,11 @@ module _ (v k : ℕ) (p : Probe) (e : p.condition ≡ Searching k First) (r : re
   unfolding took took_in took_searching reaches
   to_third b = took_at_reached v b (in_condition p (Searching k Second)) true r
 
-  pub first_sent : sends_at v p ≡ bit_of p.id k
+  first_sent : sends_at v p ≡ bit_of p.id k
   unfolding sends sends_in sends_searching
   first_sent = sends_at_reached v p true r ∙ ap (sends_in p.id) e
 
-  pub second_sent : (a : Bool) → sends_after v a p ≡ not (bit_of p.id k)
+  second_sent : (a : Bool) → sends_after v a p ≡ not (bit_of p.id k)
   unfolding sends sends_in sends_searching reaches
   second_sent a = ap (sends_at v) (to_second a) ∙ sends_at_reached v (in_condition p (Searching k Second)) true r
 
@@ -102,6 +102,13 @@ module _ (v k : ℕ) (p : Probe) (e : p.condition ≡ Searching k First) (r : re
   third_taken a b w =
       ap (took_at v w) (twice a b) ∙ took_at_reached v w (in_condition p (Searching k Third)) true r
       ∙ sym (ap (λ (c : Condition). decided_in c w p) e)
+
+pub sends_resting : (v : ℕ) (p : Probe) → rests p ≡ true → Sends v true true p
+sends_resting v p e = (settled_rests v p e, sym (sends_at_rests v p e), λ a. sym (rests_after v a p e))
+
+pub sends_first : (v k : ℕ) (p : Probe) (b : Bool) → p.condition ≡ Searching k First → reaches v p ≡ true → b ≡ bit_of p.id k → Sends v b (not b) p
+sends_first v k p b e r s =
+    (settled_first v k p e r, s ∙ sym (first_sent v k p e r), λ a. ap not s ∙ sym (second_sent v k p e r a))
 
 decided_rests : (w : Bool) (p : Probe) → rests p ≡ true → decided w p ≡ p
 unfolding decided decided_in rests rests_in
@@ -130,16 +137,23 @@ after_three v a b w p e =
     ∙ took_at_rests v w p s ∙ sym (decided_rests w p s))
     (λ k f r. third_taken v k p f r a b w)
 
--- what a searching probe is then at bit k, by whether the level is its bit and whether that is the last
-abbrev pub outcome : ℕ → Bool → Bool → Probe → Probe
-outcome k same last p =
-    cond same (cond last (with_mark p true Selected) (in_condition p (Searching (k + 1) First))) (in_condition p Deaf)
+-- what a probe is after the third slot of the search bit k, by whether the level is its bit and whether that is the last
+module _ (w : Bool) (p : Probe) (k : ℕ) (c : Slot) (e : p.condition ≡ Searching k c) where
+  outcome : (s t : Bool) → agrees w p.id k ≡ s → leb 63 k ≡ t
+      → decided w p ≡ cond s (cond t (with_mark p true Selected) (in_condition p (Searching (k + 1) First))) (in_condition p Deaf)
+  unfolding decided decided_in took_searching
+  outcome s t same last =
+      ap (λ (q : Condition). decided_in q w p) e
+      ∙ ap₂ (λ (u x : Bool). cond u (cond x (with_mark p true Selected) (in_condition p (Searching (k + 1) First))) (in_condition p Deaf)) same last
 
-pub decided_by : (k : ℕ) (w : Bool) (p : Probe) {c : Slot} (s t : Bool)
-    → p.condition ≡ Searching k c → agrees w p.id k ≡ s → leb 63 k ≡ t → decided w p ≡ outcome k s t p
-unfolding decided decided_in took_searching
-decided_by k w p s t e same last =
-    ap (λ (c : Condition). decided_in c w p) e ∙ ap₂ (λ (u x : Bool). outcome k u x p) same last
+  pub decided_on : agrees w p.id k ≡ true → k < 63 → decided w p ≡ in_condition p (Searching (k + 1) First)
+  decided_on same h = outcome true false same (lt-leb 63 k h)
+
+  pub decided_last : agrees w p.id k ≡ true → 63 ≤ k → decided w p ≡ with_mark p true Selected
+  decided_last same h = outcome true true same (le-leb 63 k h)
+
+  pub decided_off : agrees w p.id k ≡ false → decided w p ≡ in_condition p Deaf
+  decided_off other = outcome false (leb 63 k) other refl
 
 -- ---- the line
 
@@ -177,12 +191,22 @@ module _ (v : ℕ) (l : Line) (e : all (settled v) (fitted l) ≡ true) where
 
 -- ---- the first entries of a table, over any type of entry
 
-module _ {A : Type 0} where
-  passes : (f : A → Bool) (l : List A) (i : ℕ) (d : A) → i < length l → f (get_or l i d) ≡ true → all f (take i l) ≡ all f (take (suc i) l)
-  unfolding all
-  passes f [] i d h e = absurd (omega arith)
-  passes f (x ∷ l) zero d h e = sym (both (f x) true e refl)
-  passes f (x ∷ l) (suc i) d h e = ap (λ (b : Bool). cond (f x) b false) (passes f l i d (omega arith) e)
+last_of : (s : Bool) → cond s true false ≡ s
+last_of true = refl
+last_of false = refl
 
-  pub all_passes : (f : A → Bool) (l : List A) (i : ℕ) (d : A) → i < length l → f (get_or l i d) ≡ true → all f (take i l) ≡ all f (take (i + 1) l)
-  all_passes f l i d h e = rw add-one (passes f l i d h e)
+in_turn : (s t u : Bool) → cond s (t && u) false ≡ (cond s t false && u)
+in_turn true t u = refl
+in_turn false t u = refl
+
+module _ {A : Type 0} where
+  more : (f : A → Bool) (l : List A) (i : ℕ) (d : A) → i < length l → all f (take (suc i) l) ≡ (all f (take i l) && f (get_or l i d))
+  unfolding all
+  more f [] i d h = absurd (omega arith)
+  more f (x ∷ l) zero d h = last_of (f x)
+  more f (x ∷ l) (suc i) d h =
+      ap (λ (b : Bool). cond (f x) b false) (more f l i d (omega arith)) ∙ in_turn (f x) (all f (take i l)) (f (get_or l i d))
+
+  pub all_more : (f : A → Bool) (l : List A) (i : ℕ) (d : A) (s b : Bool) → i < length l → s ≡ all f (take i l) → b ≡ f (get_or l i d)
+      → (s && b) ≡ all f (take (i + 1) l)
+  all_more f l i d s b h e q = ap₂ (λ (x y : Bool). x && y) e q ∙ sym (rw add-one (more f l i d h))

@@ -6,188 +6,139 @@
 // Worked example: a searching probe whose next bit is 1 gives the levels 1 and 0, and after a third slot of 1 it searches on.
 #![tactic(auto)]
 
-ghost use Rattle.std.specs.Prelude.{◌≡◌, true, false};
+ghost use Rattle.std.specs.Prelude.{◌≡◌, true, IfSome};
 ghost use Rattle.line.specs.Line.{all, fitted, on_fitted};
-ghost use Rattle.probe.specs.Probe.{agrees, with_mark};
+ghost use Rattle.byte_slots.specs.SlotBySlot.{slot_in};
 ghost use Rattle.triplet_slots.specs.Triplet.{chosen as chosen_by, first_level, second_level, written_bit, after_triplet};
-ghost use Rattle.triplet_slots.specs.Triplet.{settled as settled_at, decided};
+ghost use Rattle.triplet_slots.specs.Triplet.{second_in, written_in, triplet_in, settled as settled_at, Sends, decided};
 
+use byte_slots::SlotBySlot;
 use line::Line;
-use probe::{Condition, Probe, Slot};
-
-// The number of an ID's last bit.
-const LAST_BIT: u8 = 63;
+use probe::{Condition, LAST_BIT, Probe, Slot};
 
 // The levels of the first two slots, the bit written in the third, and the line after them.
 #[derive(Clone, Copy)]
-pub struct Tripled {
+pub struct Tripled<L> {
     pub first: bool,
     pub second: bool,
     pub bit: bool,
-    pub line: Line,
+    pub line: L,
 }
 
 // The bit that a triplet writes after its two levels.
+// As it is: `first || !second && direction` would be no plainer; this reads as the definition does.
 fn chosen(first: bool, second: bool, direction: bool) -> bool
     ensures { result ≡ chosen_by first second direction }
 {
     if first {
         true
+    } else if second {
+        false
     } else {
-        if second { false } else { direction }
+        direction
     }
 }
 
-// The level is the probe's own bit.
-fn agrees(p: Probe, bit: u8, level: bool) -> bool
-    ensures { result ≡ agrees level p.id bit }
+// A searching probe takes the third level of its bit. Each outcome has an assignment of its own, since one place that stores what several
+// ways have made waits for the memory.
+#[tactic(auto, using(crate::proofs::Settled::decided_on, crate::proofs::Settled::decided_last, crate::proofs::Settled::decided_off), unfolding(crate::specs::Triplet::decided, crate::specs::Triplet::decided_in))]
+fn decide(p: &mut Probe, level: bool)
+    ensures { p.new ≡ decided level p.old }
 {
-    if identity::bit(p.id, bit) {
-        level
-    } else {
-        !level
+    if let Condition::Searching { bit, .. } = p.condition {
+        if !p.agrees(level, bit) {
+            *p = p.in_condition(Condition::Deaf);
+        } else if bit < LAST_BIT {
+            *p = p.in_condition(Condition::Searching {
+                bit: bit + 1,
+                slot: Slot::First,
+            });
+        } else {
+            *p = p.with_mark(true, Condition::Selected);
+        }
     }
 }
 
-// The same probe in another condition, its mark set or as it was.
-fn turned(p: Probe, marked: bool, condition: Condition) -> Probe
-    ensures { result ≡ with_mark p marked condition }
-{
-    Probe {
-        id: p.id,
-        marked,
-        speed: p.speed,
-        condition,
-    }
-}
-
-// Every searching probe takes the third level of its bit. Each outcome has an assignment of its own, since one place that stores what
-// several ways have made waits for the memory.
+// As it is: see `taken_byte` of byte_slots.
+#[tactic(auto, using(line::proofs::Front::stepped_set, line::proofs::Steps::front_all))]
 fn all_decided(mut line: Line, level: bool) -> Line
     ensures { result ≡ on_fitted (decided level) line }
 {
     let n = line.entries();
-    let mut i = 0;
-    while i < n {
-        let at = i;
-        let p = line.probes[at];
-        i += 1;
-        let condition = p.condition;
-        match condition {
-            Condition::Deaf => {}
-            Condition::Taking { count: _, code: _ } => {}
-            Condition::Sending { bit: _ } => {}
-            Condition::Matching {
-                bit: _,
-                fallback: _,
-            } => {}
-            Condition::Searching { bit, slot: _ } => {
-                if agrees(p, bit, level) {
-                    if bit < LAST_BIT {
-                        let next = Condition::Searching {
-                            bit: bit + 1,
-                            slot: Slot::First,
-                        };
-                        line.probes[at] = turned(p, p.marked, next);
-                    } else {
-                        line.probes[at] = turned(p, true, Condition::Selected);
-                    }
-                } else {
-                    line.probes[at] = turned(p, p.marked, Condition::Deaf);
-                }
-            }
-            Condition::Selected => {}
-        }
+    let on = &mut line;
+    for p in &mut on.probes[..n] {
+        decide(p, level);
     }
     line
 }
 
-// What the first two slots come to, where that is settled before they begin.
-#[derive(Clone, Copy)]
-struct Prospect {
-    settled: bool,
-    first: bool,
-    second: bool,
-}
-
-fn unsettled() -> Prospect
-    ensures { result.settled ≡ false }
+// What a probe lets the line be in the first two slots, where that is settled before they begin.
+fn two_levels(p: Probe, speed: u32) -> Option<(bool, bool)>
+    ensures { IfSome result (λ levels. Sends speed levels.0 levels.1 p) }
 {
-    Prospect {
-        settled: false,
-        first: false,
-        second: false,
+    if p.rests() {
+        return Some((true, true));
     }
+    if !p.reached(speed) {
+        return None;
+    }
+    let Condition::Searching { bit, slot } = p.condition else {
+        return None;
+    };
+    let Slot::First = slot else {
+        return None;
+    };
+    let sent = identity::bit(p.id, bit);
+    Some((sent, !sent))
 }
 
-fn outlook(line: Line, speed: u32) -> Prospect
-    ensures { result.settled ≡ true → (all (settled_at speed) (fitted line) ≡ true) × (result.first ≡ first_level speed line) × (result.second ≡ second_level speed line) }
+// What the first two slots come to, where that is settled before they begin.
+fn outlook(line: Line, speed: u32) -> Option<(bool, bool)>
+    ensures { IfSome result (λ levels. (all (settled_at speed) (fitted line) ≡ true) × (levels.0 ≡ first_level speed line) × (levels.1 ≡ second_level speed line)) }
 {
     let n = line.entries();
     let mut first = true;
     let mut second = true;
-    let mut i = 0;
-    while i < n {
-        let p = line.probes[i];
-        i += 1;
-        if !p.rests() {
-            if !p.reached(speed) {
-                return unsettled();
-            }
-            let condition = p.condition;
-            let Condition::Searching { bit, slot } = condition else {
-                return unsettled();
-            };
-            let Slot::First = slot else {
-                return unsettled();
-            };
-            if identity::bit(p.id, bit) {
-                second = false;
-            } else {
-                first = false;
-            }
-        }
+    for p in &line.probes[..n] {
+        let (bit, complement) = two_levels(*p, speed)?;
+        first = first & bit;
+        second = second & complement;
     }
-    Prospect {
-        settled: true,
-        first,
-        second,
-    }
+    Some((first, second))
 }
 
-fn slot_by_slot(start: Line, speed: u32, direction: bool) -> Tripled
-    ensures { (result.first ≡ first_level speed start) × (result.second ≡ second_level speed start)
-        × (result.bit ≡ written_bit speed direction start) × (result.line ≡ after_triplet speed direction start) }
+// A triplet at this speed, one slot after the other.
+pub fn three<L: SlotBySlot>(start: L, speed: u32, direction: bool) -> Tripled<L>
+    ensures { (result.first ≡ L.level_in speed true start) × (result.second ≡ second_in L.level_in L.taken_in speed start)
+        × (result.bit ≡ written_in L.level_in L.taken_in speed direction start) × (result.line ≡ triplet_in L.level_in L.taken_in speed direction start) }
 {
     let first = start.level(speed, true);
     let once = start.taken(speed, first);
     let second = once.level(speed, true);
     let twice = once.taken(speed, second);
-    let bit = chosen(first, second, direction);
-    let third = twice.level(speed, bit);
+    let written = chosen(first, second, direction);
+    let third = twice.level(speed, written);
     Tripled {
         first,
         second,
-        bit,
+        bit: written,
         line: twice.taken(speed, third),
     }
 }
 
 // A triplet at this speed: two slots in which the bridge writes 1, then one with the bit that their levels and the direction choose.
-pub fn triplet(line: Line, speed: u32, direction: bool) -> Tripled
+pub fn triplet(line: Line, speed: u32, direction: bool) -> Tripled<Line>
     ensures { (result.first ≡ first_level speed line) × (result.second ≡ second_level speed line)
         × (result.bit ≡ written_bit speed direction line) × (result.line ≡ after_triplet speed direction line) }
 {
-    let ahead = outlook(line, speed);
-    if ahead.settled {
-        let bit = chosen(ahead.first, ahead.second, direction);
-        Tripled {
-            first: ahead.first,
-            second: ahead.second,
-            bit,
-            line: all_decided(line, bit),
-        }
-    } else {
-        slot_by_slot(line, speed, direction)
+    let Some((first, second)) = outlook(line, speed) else {
+        return three(line, speed, direction);
+    };
+    let bit = chosen(first, second, direction);
+    Tripled {
+        first,
+        second,
+        bit,
+        line: all_decided(line, bit),
     }
 }

@@ -1,30 +1,21 @@
 -- Two tables side by side whose first entries have been gone through.
 --   paired_at       an entry that is still to come is as it was
---   paired_next     one entry more; paired_kept, one that stays as it is
---   paired_length   as many as there were
---   both_all_next    one pair more passes the test; both_all_fails, one fails it
-use mathlib.Core.Path.{◌≡◌, refl, sym, ap}
-use mathlib.Core.Bool.{Bool, true, false, cond}
-use mathlib.Core.List.{List, [], ◌∷◌}
-use Prim.Native.Nat.{ℕ, zero, suc, ◌+◌, ◌<◌}
+--   paired_set      one entry more, in place
+--   paired_all      all of them, and the entries behind
+--   all_zip         a test of every pair
+use mathlib.Core.Path.{◌≡◌, refl, ap, ap₂, ◌∙◌}
+use mathlib.Core.Bool.{Bool, false, cond}
+use mathlib.Core.List.{List, [], ◌∷◌, ◌++◌}
+use Prim.Native.Nat.{ℕ, zero, suc, ◌+◌, ◌<◌, ◌≤◌}
 use native.Mathlib.Numerals.{add-one}
 use native.Mathlib.Omega.{arith}
-use lib.ListN.{length, get_or, take, set}
-use Rattle.line.proofs.Front.{both, first_of, rest_of}
+use lib.ListN.{length, get_or, take, drop, set, length-take, take-append-drop}
+use Rattle.std.specs.List.{zip}
+use Rattle.line.specs.Line.{all}
 use Rattle.wire.specs.Pairs.{paired, both_all}
 
-either : (s t : Bool) → t ≡ false → cond s t false ≡ false
-either true t e = e
-either false t e = refl
-
 module _ {A B : Type 0} where
-  pub paired_length : (f : A → B → B) (xs : List A) (ys : List B) → length (paired f xs ys) ≡ length ys
-  unfolding paired
-  paired_length f [] ys = refl
-  paired_length f (a ∷ xs) [] = refl
-  paired_length f (a ∷ xs) (b ∷ ys) = ap suc (paired_length f xs ys)
-
-  pub paired_at : (f : A → B → B) (xs : List A) (ys : List B) (i : ℕ) (e : B) → get_or (paired f (take i xs) ys) i e ≡ get_or ys i e
+  paired_at : (f : A → B → B) (xs : List A) (ys : List B) (i : ℕ) (e : B) → get_or (paired f (take i xs) ys) i e ≡ get_or ys i e
   unfolding paired
   paired_at f xs ys zero e = refl
   paired_at f [] ys (suc i) e = refl
@@ -39,42 +30,33 @@ module _ {A B : Type 0} where
   next f (a ∷ xs) (b ∷ ys) zero d e h k = refl
   next f (a ∷ xs) (b ∷ ys) (suc i) d e h k = ap (λ (t : List B). f a b ∷ t) (next f xs ys i d e (omega arith) (omega arith))
 
-  pub paired_next : (f : A → B → B) (xs : List A) (ys : List B) (i : ℕ) (d : A) (e : B) → i < length xs → i < length ys
+  paired_next : (f : A → B → B) (xs : List A) (ys : List B) (i : ℕ) (d : A) (e : B) → i < length xs → i < length ys
       → set (paired f (take i xs) ys) i (f (get_or xs i d) (get_or ys i e)) ≡ paired f (take (i + 1) xs) ys
   paired_next f xs ys i d e h k = rw add-one (next f xs ys i d e h k)
 
-  kept : (f : A → B → B) (xs : List A) (ys : List B) (i : ℕ) (d : A) (e : B) → i < length xs → i < length ys
-      → f (get_or xs i d) (get_or ys i e) ≡ get_or ys i e → paired f (take i xs) ys ≡ paired f (take (suc i) xs) ys
+  pub paired_set : (f : A → B → B) (xs : List A) (ys zs : List B) (i : ℕ) (d : A) (e z : B) → i < length xs → i < length ys
+      → zs ≡ paired f (take i xs) ys → z ≡ f (get_or xs i d) (get_or zs i e) → set zs i z ≡ paired f (take (i + 1) xs) ys
+  paired_set f xs ys zs i d e z h k m q =
+      ap₂ (λ (t : List B) (x : B). set t i x) m
+      (q ∙ ap (λ (t : List B). f (get_or xs i d) (get_or t i e)) m ∙ ap (f (get_or xs i d)) (paired_at f xs ys i e))
+      ∙ paired_next f xs ys i d e h k
+
+  front : (f : A → B → B) (xs : List A) (ys : List B) (n : ℕ) → length xs ≤ n → paired f xs (take n ys) ++ drop n ys ≡ paired f xs ys
   unfolding paired
-  kept f [] ys i d e h k q = absurd (omega arith)
-  kept f (a ∷ xs) [] i d e h k q = absurd (omega arith)
-  kept f (a ∷ xs) (b ∷ ys) zero d e h k q = ap (λ (t : B). t ∷ ys) (sym q)
-  kept f (a ∷ xs) (b ∷ ys) (suc i) d e h k q = ap (λ (t : List B). f a b ∷ t) (kept f xs ys i d e (omega arith) (omega arith) q)
+  front f [] ys n h = take-append-drop n ys
+  front f (a ∷ xs) ys zero h = absurd (omega arith)
+  front f (a ∷ xs) [] (suc n) h = refl
+  front f (a ∷ xs) (b ∷ ys) (suc n) h = ap (λ (t : List B). f a b ∷ t) (front f xs ys n (omega arith))
 
-  pub paired_kept : (f : A → B → B) (xs : List A) (ys : List B) (i : ℕ) (d : A) (e : B) → i < length xs → i < length ys
-      → f (get_or xs i d) (get_or ys i e) ≡ get_or ys i e → paired f (take i xs) ys ≡ paired f (take (i + 1) xs) ys
-  paired_kept f xs ys i d e h k q = rw add-one (kept f xs ys i d e h k q)
+  pub paired_all : (f : A → B → B) (xs : List A) (ys zs : List B) (n i : ℕ) → zs ≡ paired f (take i xs) (take n ys) → i ≡ n
+      → zs ++ drop n ys ≡ paired f (take n xs) ys
+  paired_all f xs ys zs n i m e =
+      ap (λ (t : List B). t ++ drop n ys) (m ∙ ap (λ (j : ℕ). paired f (take j xs) (take n ys)) e)
+      ∙ front f (take n xs) ys n (omega (arith, length-take n xs))
 
-  more : (f : A → B → Bool) (xs : List A) (ys : List B) (i : ℕ) (d : A) (e : B) → i < length xs → i < length ys
-      → both_all f (take i xs) ys ≡ true → f (get_or xs i d) (get_or ys i e) ≡ true → both_all f (take (suc i) xs) ys ≡ true
-  unfolding both_all
-  more f [] ys i d e h k a q = absurd (omega arith)
-  more f (x ∷ xs) [] i d e h k a q = absurd (omega arith)
-  more f (x ∷ xs) (y ∷ ys) zero d e h k a q = both (f x y) true q refl
-  more f (x ∷ xs) (y ∷ ys) (suc i) d e h k a q =
-      both (f x y) (both_all f (take (suc i) xs) ys) (first_of (f x y) (both_all f (take i xs) ys) a)
-      (more f xs ys i d e (omega arith) (omega arith) (rest_of (f x y) (both_all f (take i xs) ys) a) q)
-
-  pub both_all_next : (f : A → B → Bool) (xs : List A) (ys : List B) (i : ℕ) (d : A) (e : B) → i < length xs → i < length ys
-      → both_all f (take i xs) ys ≡ true → f (get_or xs i d) (get_or ys i e) ≡ true → both_all f (take (i + 1) xs) ys ≡ true
-  both_all_next f xs ys i d e h k a q = rw add-one (more f xs ys i d e h k a q)
-
-  pub both_all_fails : (f : A → B → Bool) (xs : List A) (ys : List B) (n i : ℕ) (d : A) (e : B) → i < n → i < length xs → i < length ys
-      → f (get_or xs i d) (get_or ys i e) ≡ false → both_all f (take n xs) ys ≡ false
-  unfolding both_all
-  both_all_fails f [] ys n i d e g h k q = absurd (omega arith)
-  both_all_fails f (x ∷ xs) [] n i d e g h k q = absurd (omega arith)
-  both_all_fails f (x ∷ xs) (y ∷ ys) zero i d e g h k q = absurd (omega arith)
-  both_all_fails f (x ∷ xs) (y ∷ ys) (suc n) zero d e g h k q = ap (λ (b : Bool). cond b (both_all f (take n xs) ys) false) q
-  both_all_fails f (x ∷ xs) (y ∷ ys) (suc n) (suc i) d e g h k q =
-      either (f x y) (both_all f (take n xs) ys) (both_all_fails f xs ys n i d e (omega arith) (omega arith) (omega arith) q)
+  pub all_zip : (f : A → B → Bool) (xs : List A) (ys : List B) (n : ℕ) → length xs ≤ n → all (λ (z : A × B). f z.0 z.1) (zip xs (take n ys)) ≡ both_all f xs ys
+  unfolding all both_all
+  all_zip f [] ys n h = refl
+  all_zip f (a ∷ xs) ys zero h = absurd (omega arith)
+  all_zip f (a ∷ xs) [] (suc n) h = refl
+  all_zip f (a ∷ xs) (b ∷ ys) (suc n) h = ap (λ (t : Bool). cond (f a b) t false) (all_zip f xs ys n (omega arith))

@@ -1,26 +1,19 @@
--- The two tables of a wire, whose first entries have been gone through.
+-- The counts of the two tables of a wire.
 --   take_both       the first entries of a table, by two counts and by the smaller of them
 --   bounded         a count that is at most 64, and the same where it is less
---   chips_at f l i k     the chips k with f done to the first i of them that have a fellow on the line l
---   chips_next      one entry more; chips_kept, one that stays as it is
---   line_at f k i l      the line l with f done to the first i probes that have a fellow among the chips k
---   line_next, line_kept      the same of it
-use mathlib.Core.Path.{◌≡◌, refl, sym, ap, ap₂, ◌∙◌}
+--   smaller         the smaller of two counts
+--   whole_either    where it ends
+use mathlib.Core.Path.{◌≡◌, refl, sym, ap, ◌∙◌}
 use mathlib.Core.Bool.{Bool, true, false, cond}
 use mathlib.Core.Logic.{◌⊎◌, inl, inr}
 use mathlib.Core.List.{List, [], ◌∷◌}
-use Prim.Native.Nat.{ℕ, zero, suc, ◌+◌, ◌<◌, ◌≤◌}
+use Prim.Native.Nat.{ℕ, zero, suc, ◌<◌, ◌≤◌, min}
 use native.Mathlib.Omega.{arith}
 use lib.Dec.{ltb}
-use lib.ListN.{length, get_or, take, set, length-take}
+use lib.ListN.{length, take, length-take}
 use lib.Seq.{take_all}
 use borrow.Author.Tests.{ltb-true, ltb-false}
-use Rattle.probe.specs.declared.Probe.{Probe}
-use Rattle.line.specs.declared.Line.{Line}
-use Rattle.chip.specs.declared.Chip.{Chip}
-use Rattle.wire.specs.declared.Chips.{Chips}
-use Rattle.wire.specs.Pairs.{paired}
-use Rattle.wire.proofs.Beside.{paired_at, paired_next, paired_kept}
+use Rattle.std.proofs.Math.Nat.{min-eq_left, min-eq_right}
 
 -- ---- counts
 
@@ -58,52 +51,21 @@ whole_or r x h f = go (ltb r 64) refl
     go true q = inl (f (ltb-true r 64 q))
     go false q = inr (omega (arith, ltb-false r 64 q))
 
--- ---- a table beside another
+pub smaller : (r x y : ℕ) → r ≡ min x y → (r ≤ x) × (r ≤ y) × ((r ≡ x) ⊎ (r ≡ y))
+smaller r x y e = go (ltb y x) refl
+  where
+    go : (t : Bool) → ltb y x ≡ t → (r ≤ x) × (r ≤ y) × ((r ≡ x) ⊎ (r ≡ y))
+    go true q =
+        let h = ltb-true y x q in
+        let s : r ≡ y = e ∙ min-eq_right (omega (arith, h)) in
+        (omega (arith, s, h), omega (arith, s), inr s)
+    go false q =
+        let h = ltb-false y x q in
+        let s : r ≡ x = e ∙ min-eq_left (omega (arith, h)) in
+        (omega (arith, s), omega (arith, s, h), inl s)
 
-module _ {A B : Type 0} (f : A → B → B) (xs : List A) (ys zs : List B) (i : ℕ) (d : A) (e : B)
-    (h : i < length xs) (k : i < length ys) (m : zs ≡ paired f (take i xs) ys) where
-  same : get_or zs i e ≡ get_or ys i e
-  same = ap (λ (t : List B). get_or t i e) m ∙ paired_at f xs ys i e
-
-  row_next : (z : B) → z ≡ f (get_or xs i d) (get_or zs i e) → set zs i z ≡ paired f (take (i + 1) xs) ys
-  row_next z q =
-      ap₂ (λ (t : List B) (x : B). set t i x) m (q ∙ ap (f (get_or xs i d)) same) ∙ paired_next f xs ys i d e h k
-
-  row_kept : f (get_or xs i d) (get_or zs i e) ≡ get_or zs i e → zs ≡ paired f (take (i + 1) xs) ys
-  row_kept q = m ∙ paired_kept f xs ys i d e h k (ap (f (get_or xs i d)) (sym same) ∙ q ∙ same)
-
--- ---- the chips beside the line
-
-abbrev pub chips_at : (Probe → Chip → Chip) → Line → ℕ → Chips → Chips
-chips_at f l i k = record { table = paired f (take i l.probes) k.table; count = k.count }
-
-module _ (f : Probe → Chip → Chip) (l : Line) (k m : Chips) (i : ℕ) (d : Probe) (e : Chip)
-    (h : i < length l.probes) (g : i < length k.table) (q : m ≡ chips_at f l i k) where
-  pub chips_next : (c : Chip) → c ≡ f (get_or l.probes i d) (get_or m.table i e)
-      → record { table = set m.table i c; count = m.count } ≡ chips_at f l (i + 1) k
-  chips_next c r =
-      ap₂ {C = Chips} (λ (t : List Chip) (n : ℕ). record { table = t; count = n })
-      (row_next f l.probes k.table m.table i d e h g (ap (λ (x : Chips). x.table) q) c r) (ap (λ (x : Chips). x.count) q)
-
-  pub chips_kept : f (get_or l.probes i d) (get_or m.table i e) ≡ get_or m.table i e → m ≡ chips_at f l (i + 1) k
-  chips_kept r =
-      ap₂ {C = Chips} (λ (t : List Chip) (n : ℕ). record { table = t; count = n })
-      (row_kept f l.probes k.table m.table i d e h g (ap (λ (x : Chips). x.table) q) r) (ap (λ (x : Chips). x.count) q)
-
--- ---- the line beside the chips
-
-abbrev pub line_at : (Chip → Probe → Probe) → Chips → ℕ → Line → Line
-line_at f k i l = record { probes = paired f (take i k.table) l.probes; count = l.count }
-
-module _ (f : Chip → Probe → Probe) (k : Chips) (l m : Line) (i : ℕ) (d : Chip) (e : Probe)
-    (h : i < length k.table) (g : i < length l.probes) (q : m ≡ line_at f k i l) where
-  pub line_next : (p : Probe) → p ≡ f (get_or k.table i d) (get_or m.probes i e)
-      → record { probes = set m.probes i p; count = m.count } ≡ line_at f k (i + 1) l
-  line_next p r =
-      ap₂ {C = Line} (λ (t : List Probe) (n : ℕ). record { probes = t; count = n })
-      (row_next f k.table l.probes m.probes i d e h g (ap (λ (x : Line). x.probes) q) p r) (ap (λ (x : Line). x.count) q)
-
-  pub line_kept : f (get_or k.table i d) (get_or m.probes i e) ≡ get_or m.probes i e → m ≡ line_at f k (i + 1) l
-  line_kept r =
-      ap₂ {C = Line} (λ (t : List Probe) (n : ℕ). record { probes = t; count = n })
-      (row_kept f k.table l.probes m.probes i d e h g (ap (λ (x : Line). x.probes) q) r) (ap (λ (x : Line). x.count) q)
+pub whole_either : {r x y m n : ℕ} → (r ≡ x) ⊎ (r ≡ y) → (x ≡ m) ⊎ (x ≡ 64) → (y ≡ n) ⊎ (y ≡ 64) → (r ≡ m) ⊎ ((r ≡ n) ⊎ (r ≡ 64))
+whole_either (inl p) (inl q) k = inl (p ∙ q)
+whole_either (inl p) (inr q) k = inr (inr (p ∙ q))
+whole_either (inr p) h (inl q) = inr (inl (p ∙ q))
+whole_either (inr p) h (inr q) = inr (inr (p ∙ q))

@@ -7,24 +7,21 @@
 // Worked example: a chip that is in the second poll slot of its answer leaves the line at 0 in a slot in which the bridge writes 1.
 #![tactic(auto)]
 
-ghost use Rattle.std.specs.Prelude.{◌≡◌, true, ◌+◌, ◌*◌, ◌/◌, ◌≤◌, ◌<◌, length, take};
-ghost use Rattle.probe.specs.Probe.{in_condition, digit};
-ghost use Rattle.probe.specs.declared.Condition.TheVariants.{Deaf};
-ghost use Rattle.triplet_slots.specs.Triplet.{chosen as chosen_by};
+ghost use Rattle.std.specs.Prelude.{◌≡◌, true, ◌+◌, ◌*◌, ◌≤◌, ◌<◌, length, take};
 ghost use Rattle.wire.specs.Pairs.{both_all};
-ghost use Rattle.wire.specs.Wire.{no_chips, fellows, listens, lets, level_on, heard_on, quieted_on, took_on, slot_on, slots_on};
-ghost use Rattle.wire.specs.Wire.{levels_on, second_on, written_on, triplet_on, reset_reaches, emptied_on, chips_without};
-ghost use Rattle.wire.specs.Calm.{slot_of, calm, all_calm};
+ghost use Rattle.wire.specs.Wire.{no_chips, fellows, listens, lets, level_on, heard_by, heard_on, quieted, quieted_on, took_on, slot_on};
+ghost use Rattle.wire.specs.Wire.{slots_on, levels_on, second_on, written_on, triplet_on, reset_reaches, emptied_by, emptied_on, chips_without};
+ghost use Rattle.wire.specs.Calm.{slot_of, calm, calm_with, all_calm};
 
+use byte_slots::{Levels, SlotBySlot};
 use chip::{Chip, NO_ADDRESS};
-use line::Line;
+use line::{Line, MOST, Slotted};
 use probe::{Condition, Probe, STANDARD, Slot};
-
-// The most entries that the tables have.
-const MOST: usize = 64;
+use triplet_slots::Tripled;
 
 // The table of chips: its first `count` entries are in use, and stand beside the probes in the same order. An entry that is not in use
 // holds what stands for a probe of the old kind.
+// As it is: a table of fixed memory with its count beside the line's; `fellows`, `heard_on` and `chips_with` are over both tables.
 #[derive(Clone, Copy)]
 pub struct Chips {
     pub table: [Chip; 64],
@@ -38,31 +35,9 @@ pub struct Wire {
     pub chips: Chips,
 }
 
-// A slot's level, and the line and its chips after it.
-#[derive(Clone, Copy)]
-pub struct Slotted {
-    pub level: bool,
-    pub wire: Wire,
-}
-
-// The levels of eight slots, the first in the low bit, and the line and its chips after them.
-#[derive(Clone, Copy)]
-pub struct Levels {
-    pub byte: u8,
-    pub wire: Wire,
-}
-
-// The levels of the first two slots of a triplet, the bit written in the third, and the line and its chips after them.
-#[derive(Clone, Copy)]
-pub struct Tripled {
-    pub first: bool,
-    pub second: bool,
-    pub bit: bool,
-    pub wire: Wire,
-}
-
 impl Chips {
     // No chip is fitted.
+    // As it is: each table has its own free entry, as line's `bare` has.
     pub fn none() -> Chips
         ensures { result ≡ no_chips }
     {
@@ -74,257 +49,69 @@ impl Chips {
     }
 
     // How many entries are in use. No table that calls reach has more than 64; with the bound the loops need no premise.
+    // As it is: the table's fields are public, so an invariant `count ≤ 64` would ask more of whoever builds one; as in line's `entries`.
     fn entries(self) -> usize
         ensures { (length self.table ≡ 64) × (result ≤ 64) × (result ≤ self.count) × (result < 64 → result ≡ self.count) }
     {
-        let count = self.count;
-        if count < MOST { count } else { MOST }
+        self.count.min(MOST)
     }
 }
 
+// ---- one probe and its entry
+
 // The probe is a chip that is selected, and a slot at this speed reaches it.
+// As it is: a probe and its chip lie in two tables (`fellows`), and each loop changes one of them, so a struct of both would be built anew.
 #[tactic(auto, unfolding(crate::specs::Wire::listens, crate::specs::Wire::is_selected))]
 fn listening(p: Probe, c: Chip, speed: u32) -> bool
     ensures { result ≡ listens speed p c }
 {
-    if NO_ADDRESS <= c.address {
-        return false;
-    }
-    let condition = p.condition;
-    match condition {
-        Condition::Selected => p.reached(speed),
-        _ => false,
-    }
+    c.address < NO_ADDRESS && matches!(p.condition, Condition::Selected) && p.reached(speed)
 }
 
-// How many probes have an entry among the chips. The other clauses are what a loop over both tables asks.
-fn pairs(line: Line, chips: Chips) -> usize
-    ensures { (result ≤ 64) × (length line.probes ≡ 64) × (length chips.table ≡ 64) × (take result line.probes ≡ fellows line chips)
-        × (take result chips.table ≡ take line.count (take chips.count chips.table)) }
+// What it lets the line be: false where it listens and sends 0.
+#[tactic(auto, unfolding(crate::specs::Wire::lets))]
+fn lets(p: Probe, c: Chip, speed: u32) -> bool
+    ensures { result ≡ lets speed p c }
 {
-    let probes = line.entries();
-    let chips = chips.entries();
-    if probes < chips { probes } else { chips }
+    !listening(p, c, speed) || c.sends()
 }
 
-// ---- a slot
-
-// No chip that listens sends 0.
-fn all_let(line: Line, chips: Chips, speed: u32) -> bool
-    ensures { result ≡ both_all (lets speed) (fellows line chips) chips.table }
+// A chip that listens hears the level.
+#[tactic(auto, unfolding(crate::specs::Wire::heard_by))]
+fn hear(c: &mut Chip, p: Probe, speed: u32, level: bool)
+    ensures { c.new ≡ heard_by speed level p c.old }
 {
-    let n = pairs(line, chips);
-    let mut i = 0;
-    while i < n {
-        let at = i;
-        let p = line.probes[at];
-        let c = chips.table[at];
-        i += 1;
-        if listening(p, c, speed) {
-            if !c.sends() {
-                return false;
-            }
-        }
-    }
-    true
-}
-
-// Every chip that listens hears the level.
-fn heard(line: Line, mut chips: Chips, speed: u32, level: bool) -> Chips
-    ensures { result ≡ heard_on speed level line chips }
-{
-    let n = pairs(line, chips);
-    let mut i = 0;
-    while i < n {
-        let at = i;
-        let p = line.probes[at];
-        let c = chips.table[at];
-        i += 1;
-        if listening(p, c, speed) {
-            chips.table[at] = c.heard(level);
-        }
-    }
-    chips
-}
-
-// The same probe, deaf.
-fn deaf(p: Probe) -> Probe
-    ensures { result ≡ in_condition p Deaf }
-{
-    Probe {
-        id: p.id,
-        marked: p.marked,
-        speed: p.speed,
-        condition: Condition::Deaf,
+    if listening(p, *c, speed) {
+        *c = c.heard(level);
     }
 }
 
 // A chip that listens and is over is deaf.
-fn quieted(mut line: Line, chips: Chips, speed: u32) -> Line
-    ensures { result ≡ quieted_on speed chips line }
+#[tactic(auto, unfolding(crate::specs::Wire::quieted))]
+fn deafen(p: &mut Probe, c: Chip, speed: u32)
+    ensures { p.new ≡ quieted speed c p.old }
 {
-    let n = pairs(line, chips);
-    let mut i = 0;
-    while i < n {
-        let at = i;
-        let p = line.probes[at];
-        let c = chips.table[at];
-        i += 1;
-        if listening(p, c, speed) {
-            if c.over() {
-                line.probes[at] = deaf(p);
-            }
-        }
+    if listening(*p, c, speed) && c.over() {
+        *p = p.in_condition(Condition::Deaf);
     }
-    line
 }
 
 // A 1-Wire reset at this speed reaches the probe.
 fn reset_reaches(p: Probe, speed: u32) -> bool
     ensures { result ≡ reset_reaches speed p }
 {
-    if speed == STANDARD {
-        true
-    } else {
-        p.reached(speed)
-    }
+    speed == STANDARD || p.reached(speed)
 }
 
-// Every chip that a 1-Wire reset at this speed reaches has gathered nothing.
-pub fn emptied(line: Line, mut chips: Chips, speed: u32) -> Chips
-    ensures { result ≡ emptied_on speed line chips }
+// A chip that a 1-Wire reset at this speed reaches has gathered nothing.
+#[tactic(auto, unfolding(crate::specs::Wire::emptied_by))]
+fn empty(c: &mut Chip, p: Probe, speed: u32)
+    ensures { c.new ≡ emptied_by speed p c.old }
 {
-    let n = pairs(line, chips);
-    let mut i = 0;
-    while i < n {
-        let at = i;
-        let p = line.probes[at];
-        let c = chips.table[at];
-        i += 1;
-        if c.address < NO_ADDRESS {
-            if reset_reaches(p, speed) {
-                chips.table[at] = c.emptied();
-            }
-        }
-    }
-    chips
-}
-
-// A level goes in at the top of a byte and moves the earlier ones down, so that after eight the first is bit 0.
-fn with_level(byte: u8, level: bool) -> u8
-    ensures { result ≡ byte / 2 + digit level * 128 }
-{
-    if level { byte / 2 + 128 } else { byte / 2 }
-}
-
-// The bit that a triplet writes after its two levels.
-fn chosen(first: bool, second: bool, direction: bool) -> bool
-    ensures { result ≡ chosen_by first second direction }
-{
-    if first {
-        true
-    } else {
-        if second { false } else { direction }
+    if c.address < NO_ADDRESS && reset_reaches(p, speed) {
+        *c = c.emptied();
     }
 }
-
-impl Wire {
-    fn level(self, speed: u32, write: bool) -> bool
-        ensures { result ≡ level_on speed write self }
-    {
-        let line = self.line;
-        let chips = self.chips;
-        if line.level(speed, write) {
-            all_let(line, chips, speed)
-        } else {
-            false
-        }
-    }
-
-    // The chips hear the level before the probes take it.
-    fn took(self, speed: u32, level: bool) -> Wire
-        ensures { result ≡ took_on speed level self }
-    {
-        let line = self.line;
-        let chips = heard(line, self.chips, speed, level);
-        let quiet = quieted(line, chips, speed);
-        Wire {
-            line: quiet.taken(speed, level),
-            chips,
-        }
-    }
-
-    // One slot, in which the bridge writes a bit.
-    pub fn slot(self, speed: u32, write: bool) -> Slotted
-        ensures { (result.level ≡ level_on speed write self) × (result.wire ≡ slot_on speed write self) }
-    {
-        let level = self.level(speed, write);
-        Slotted {
-            level,
-            wire: self.took(speed, level),
-        }
-    }
-
-    // Eight slots at this speed with the bits of a byte, low bit first.
-    pub fn slots(self, speed: u32, byte: u8) -> Levels
-        ensures { (result.byte ≡ levels_on speed 8 byte self) × (result.wire ≡ slots_on speed 8 byte self) }
-    {
-        let mut wire = self;
-        let mut rest = byte;
-        let mut levels: u8 = 0;
-        let mut left: u8 = 8;
-        while 0 < left {
-            let level = wire.level(speed, rest % 2 == 1);
-            wire = wire.took(speed, level);
-            levels = with_level(levels, level);
-            rest = rest / 2;
-            left -= 1;
-        }
-        Levels { byte: levels, wire }
-    }
-
-    // A triplet at this speed: two slots in which the bridge writes 1, then one with the bit that their levels and the direction choose.
-    pub fn triplet(self, speed: u32, direction: bool) -> Tripled
-        ensures { (result.first ≡ level_on speed true self) × (result.second ≡ second_on speed self)
-            × (result.bit ≡ written_on speed direction self) × (result.wire ≡ triplet_on speed direction self) }
-    {
-        let first = self.level(speed, true);
-        let once = self.took(speed, first);
-        let second = once.level(speed, true);
-        let twice = once.took(speed, second);
-        let bit = chosen(first, second, direction);
-        let third = twice.level(speed, bit);
-        Tripled {
-            first,
-            second,
-            bit,
-            wire: twice.took(speed, third),
-        }
-    }
-}
-
-// The chips without that of the probe with this ID. They are laid anew, one behind the other, over the entries of power-on.
-pub fn without(line: Line, chips: Chips, id: u64) -> Chips
-    ensures { result ≡ chips_without id line chips }
-{
-    let n = pairs(line, chips);
-    let mut rest = Chips::none();
-    let mut i = 0;
-    while i < n {
-        let from = i;
-        let p = line.probes[from];
-        let c = chips.table[from];
-        i += 1;
-        if id != p.id {
-            let to = rest.count;
-            rest.table[to] = c;
-            rest.count = to + 1;
-        }
-    }
-    rest
-}
-
-// ---- slots that are the line's alone
 
 // Which of the 192 slots of a search comes next.
 #[tactic(auto, unfolding(crate::specs::Calm::slot_of))]
@@ -346,33 +133,167 @@ fn calm(p: Probe, n: u8) -> bool
     if n == 0 {
         return true;
     }
-    let condition = p.condition;
-    match condition {
+    match p.condition {
         Condition::Deaf => true,
-        Condition::Taking { count, code: _ } => count as u16 + n as u16 <= 8,
+        Condition::Taking { count, .. } => count as u16 + n as u16 <= 8,
         Condition::Sending { bit } => bit as u16 + n as u16 <= 64,
-        Condition::Matching { bit, fallback: _ } => bit as u16 + n as u16 <= 64,
+        Condition::Matching { bit, .. } => bit as u16 + n as u16 <= 64,
         Condition::Searching { bit, slot } => slot_of(bit, slot) + n as u16 <= 192,
         Condition::Selected => false,
     }
 }
 
-// No chip is selected before any of the next n slots, so that they are the line's alone.
-pub fn all_calm(line: Line, chips: Chips, n: u8) -> bool
-    ensures { result ≡ all_calm n line chips }
+// A chip is not selected before any of the next n slots.
+fn calm_with(p: Probe, c: Chip, n: u8) -> bool
+    ensures { result ≡ calm_with n p c }
 {
-    let m = pairs(line, chips);
-    let mut i = 0;
-    while i < m {
-        let at = i;
-        let p = line.probes[at];
-        let c = chips.table[at];
-        i += 1;
-        if c.address < NO_ADDRESS {
-            if !calm(p, n) {
-                return false;
-            }
+    NO_ADDRESS <= c.address || calm(p, n)
+}
+
+// ---- the line and its chips
+
+impl SlotBySlot for Wire {
+    ghost level_in = { level_on };
+
+    ghost taken_in = { took_on };
+
+    #[tactic(auto, unfolding(crate::specs::Wire::level_on))]
+    fn level(self, speed: u32, write: bool) -> bool {
+        self.line.level(speed, write) && self.all_let(speed)
+    }
+
+    // The chips hear the level before the probes take it.
+    #[tactic(auto, unfolding(crate::specs::Wire::took_on))]
+    fn taken(self, speed: u32, level: bool) -> Wire {
+        let chips = self.heard(speed, level);
+        let quiet = Wire { chips, ..self }.quieted(speed);
+        Wire {
+            line: quiet.taken(speed, level),
+            chips,
         }
     }
-    true
+}
+
+impl Wire {
+    // How many probes have an entry among the chips. The other clauses are what a loop over both tables asks.
+    fn pairs(self) -> usize
+        ensures { (result ≤ 64) × (length self.line.probes ≡ 64) × (length self.chips.table ≡ 64)
+            × (take result self.line.probes ≡ fellows self.line self.chips)
+            × (take result self.chips.table ≡ take self.line.count (take self.chips.count self.chips.table)) }
+    {
+        let probes = self.line.entries();
+        let chips = self.chips.entries();
+        probes.min(chips)
+    }
+
+    // No chip that listens sends 0.
+    fn all_let(self, speed: u32) -> bool
+        ensures { result ≡ both_all (lets speed) (fellows self.line self.chips) self.chips.table }
+    {
+        let n = self.pairs();
+        self.line.probes[..n]
+            .iter()
+            .zip(&self.chips.table[..n])
+            .all(|(p, c)| lets(*p, *c, speed))
+    }
+
+    // Every chip that listens hears the level.
+    // As it is: one loop with a closure needs clauses for the closure that are longer than the loop it spares.
+    fn heard(self, speed: u32, level: bool) -> Chips
+        ensures { result ≡ heard_on speed level self.line self.chips }
+    {
+        let n = self.pairs();
+        let mut chips = self.chips;
+        let on = &mut chips;
+        // As it is: of a loop over `iter_mut().zip(..)` the proof of `heard_on` does not close; so in `quieted` and `emptied`.
+        for (i, c) in on.table[..n].iter_mut().enumerate() {
+            hear(c, self.line.probes[i], speed, level);
+        }
+        chips
+    }
+
+    // Every chip that listens and is over is deaf.
+    fn quieted(self, speed: u32) -> Line
+        ensures { result ≡ quieted_on speed self.chips self.line }
+    {
+        let n = self.pairs();
+        let mut line = self.line;
+        let on = &mut line;
+        for (i, p) in on.probes[..n].iter_mut().enumerate() {
+            deafen(p, self.chips.table[i], speed);
+        }
+        line
+    }
+
+    // One slot, in which the bridge writes a bit.
+    // As it is: `Line::slot` lies below the trait of both, so one function for the two would be a third; each is a level and a `taken`.
+    #[tactic(auto, unfolding(crate::specs::Wire::slot_on))]
+    pub fn slot(self, speed: u32, write: bool) -> Slotted<Wire>
+        ensures { (result.level ≡ level_on speed write self) × (result.line ≡ slot_on speed write self) }
+    {
+        let level = self.level(speed, write);
+        Slotted {
+            level,
+            line: self.taken(speed, level),
+        }
+    }
+
+    // Eight slots at this speed with the bits of a byte, low bit first.
+    #[tactic(auto, using(crate::proofs::Turns::slots_wire, crate::proofs::Turns::levels_wire))]
+    pub fn slots(self, speed: u32, byte: u8) -> Levels<Wire>
+        ensures { (result.byte ≡ levels_on speed 8 byte self) × (result.line ≡ slots_on speed 8 byte self) }
+    {
+        byte_slots::eight(self, speed, byte)
+    }
+
+    // A triplet at this speed: two slots in which the bridge writes 1, then one with the bit that their levels and the direction choose.
+    #[tactic(auto, unfolding(byte_slots::specs::SlotBySlot::slot_in, crate::specs::Wire::slot_on))]
+    pub fn triplet(self, speed: u32, direction: bool) -> Tripled<Wire>
+        ensures { (result.first ≡ level_on speed true self) × (result.second ≡ second_on speed self)
+            × (result.bit ≡ written_on speed direction self) × (result.line ≡ triplet_on speed direction self) }
+    {
+        triplet_slots::three(self, speed, direction)
+    }
+
+    // Every chip that a 1-Wire reset at this speed reaches has gathered nothing.
+    pub fn emptied(self, speed: u32) -> Chips
+        ensures { result ≡ emptied_on speed self.line self.chips }
+    {
+        let n = self.pairs();
+        let mut chips = self.chips;
+        let on = &mut chips;
+        for (i, c) in on.table[..n].iter_mut().enumerate() {
+            empty(c, self.line.probes[i], speed);
+        }
+        chips
+    }
+
+    // The chips without that of the probe with this ID. They are laid anew, one behind the other, over the entries of power-on.
+    // As it is: withdrawal's goes by one table, this by two; the entries kept go to a table of fixed memory, whose count is the next place.
+    pub fn without(self, id: u64) -> Chips
+        ensures { result ≡ chips_without id self.line self.chips }
+    {
+        let n = self.pairs();
+        let mut rest = Chips::none();
+        for (p, c) in self.line.probes[..n].iter().zip(&self.chips.table) {
+            if id != p.id {
+                let to = rest.count;
+                rest.table[to] = *c;
+                rest.count = to + 1;
+            }
+        }
+        rest
+    }
+
+    // No chip is selected before any of the next n slots, so that they are the line's alone.
+    #[tactic(auto, unfolding(crate::specs::Calm::all_calm))]
+    pub fn all_calm(self, n: u8) -> bool
+        ensures { result ≡ all_calm n self.line self.chips }
+    {
+        let m = self.pairs();
+        self.line.probes[..m]
+            .iter()
+            .zip(&self.chips.table[..m])
+            .all(|(p, c)| calm_with(*p, *c, n))
+    }
 }

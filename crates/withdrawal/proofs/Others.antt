@@ -130,5 +130,8 @@ module _ (x : List ℕ) (l : Line) where
   pub not_fitted_line : is_fitted (number_of x) l ≡ false → after_withdraw x l ≡ l
   not_fitted_line e = sym (not_fitted_lem e).1
 
--- what tells `withdraw` whether the ID is fitted, and what it answers where it is not
-pub ruleset told = (fitted_left, left_at_most, length_front, not_fitted_line)
+  pub withdrawn_line : is_fitted (number_of x) l ≡ true → after_withdraw x l ≡ without (number_of x) l
+  withdrawn_line e = sym (withdrawn e).1
+
+-- what tells `withdraw` whether the ID is fitted, and what it answers then
+pub ruleset told = (fitted_left, left_at_most, length_front, not_fitted_line, withdrawn_line)

@@ -7,60 +7,56 @@
 #![tactic(auto)]
 
 ghost use Rattle.std.specs.Prelude.{◌≡◌};
-ghost use Rattle.withdrawal.specs.Withdrawal.{withdraw_number, without, after_withdraw};
+ghost use Rattle.line.specs.Line.{line_in};
+ghost use Rattle.withdrawal.specs.Withdrawal.{withdraw_number, without, after_withdraw, number_returned, number_in};
 
-use line::{DONE, Line};
+use line::Line;
 
-// The one refusal of a withdrawal ("Refusals" of R-3).
-pub const REFUSED_NOT_FITTED: u8 = 20;
+// What is wrong with a withdrawal ("Refusals" of R-3).
+#[derive(Clone, Copy, PartialEq, Eq)]
+pub enum Refusal {
+    // No probe on the line has the ID.
+    NotFitted,
+}
 
-// The number that a withdrawal returns and the line after it.
-#[derive(Clone, Copy)]
-pub struct Withdrawal {
-    pub number: u8,
-    pub line: Line,
+impl Refusal {
+    // Its number in the table of document 02.
+    pub fn number(self) -> u8
+        ensures { result ≡ number_returned self }
+    {
+        match self {
+            Refusal::NotFitted => 20,
+        }
+    }
 }
 
 // The line with every probe but that of this ID. They are laid anew, one behind the other, over the entries of power-on.
+// As it is: the entries kept go to a table of fixed memory, whose count is the place of the next.
 fn without(line: Line, id: u64) -> Line
     ensures { result ≡ without id line }
 {
+    let mut rest = Line::bare();
     let n = line.entries();
-    let bare = Line::bare();
-    let free = bare.probes;
-    let mut rest = Line {
-        probes: free,
-        count: 0,
-    };
-    let mut i = 0;
-    while i < n {
-        let from = i;
-        let p = line.probes[from];
-        i += 1;
+    for p in &line.probes[..n] {
         if id != p.id {
             let to = rest.count;
-            rest.probes[to] = p;
+            rest.probes[to] = *p;
             rest.count = to + 1;
         }
     }
     rest
 }
 
-// A probe is withdrawn. If none has gone, its ID was not fitted, and the line stays as it was.
+// The line without the probe of this ID. If none has gone, the ID was not fitted.
 #[tactic(auto, using(crate::proofs::Others::told), unfolding(crate::specs::Withdrawal::withdraw_number))]
-pub fn withdraw(line: Line, id: &[u8; 8]) -> Withdrawal
-    ensures { (result.number ≡ withdraw_number id.now line) × (result.line ≡ after_withdraw id.now line) }
+pub fn withdraw(line: Line, id: &[u8; 8]) -> Result<Line, Refusal>
+    ensures number_value { number_in result ≡ withdraw_number id.now line }
+    ensures line_value { line_in line result ≡ after_withdraw id.now line }
 {
     let rest = without(line, identity::number(id));
     if rest.count < line.entries() {
-        Withdrawal {
-            number: DONE,
-            line: rest,
-        }
+        Ok(rest)
     } else {
-        Withdrawal {
-            number: REFUSED_NOT_FITTED,
-            line,
-        }
+        Err(Refusal::NotFitted)
     }
 }

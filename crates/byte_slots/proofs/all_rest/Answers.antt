@@ -1,25 +1,17 @@
--- `byte_slots::all_rest` meets its contract: of the entries gone through all rest.
-use mathlib.Core.Path.{sym, ap, ◌∙◌}
-use native.Mathlib.Omega.{arith}
-use Rattle.line.specs.Line.{all}
+-- `byte_slots::all_rest` meets its contract: the library's `all` of the same test.
+use mathlib.Core.Path.{ap, ◌∙◌}
+use Rattle.std.proofs.Common.{rules, tests}
+use Rattle.std.proofs.lemmas.Iterator.{YieldsList-from_slice}
+use Rattle.std.proofs.lemmas.Iterator.Search.{all_from_yields_List}
+use lib.ListN.{take}
 use Rattle.probe.specs.Probe.{rests}
-use Rattle.line.proofs.Front.{all_none, all_next, all_fails}
+use Rattle.line.specs.Line.{all}
+use Rattle.line.proofs.Front.{all_std}
 use Rattle.byte_slots.proofs.all_rest.Goals as goal
 
-pub loop-i-init : goal.loop-i-init
-loop-i-init c = (omega arith, all_none rests c.args.line.probes)
-
-pub returns-then-not-rests : goal.returns-then-not-rests
-returns-then-not-rests c =
-    let l = c.loop-i in
+pub returns : goal.returns
+returns c =
     let e = c.entries-n in
-    let ps = c.args.line.probes in
-    sym
-    (ap (all rests) (sym e.ensures.2)
-    ∙ all_fails rests ps e.result l.i _ (omega arith) (omega arith) (sym c.rests.ensures ∙ c.if-not-rests.true))
-
-pub loop-i-preserved : goal.loop-i-preserved
-loop-i-preserved c =
-    let l = c.loop-i in
-    let ps = c.args.line.probes in
-    (omega arith, all_next rests ps l.i _ (omega arith) l.invariant.1 (sym c.rests.ensures ∙ c.if-not-rests.false))
+    let ps = take e.result c.args.line.probes in
+    all_from_yields_List rests _ _ _ c.all.ensures.ran (YieldsList-from_slice ps cc) (λ x b q k. search (rules, tests))
+    ∙ all_std rests ps ∙ ap (all rests) e.ensures.2

@@ -1,12 +1,7 @@
-use Rattle.checksum.specs.Register.{crc_from, taps8}
-use mathlib.Core.Path.{◌≡◌}
-use Prim.Native.Nat.{◌-◌, ◌≤◌}
-use lib.ListN.{length, drop}
+use Rattle.std.proofs.Common.{◌≡◌, drop}
+use Rattle.checksum.specs.Register.{crc_from}
+use Rattle.checksum.specs.declared.TheConstants.{TAPS8}
 use Rattle.checksum.proofs.crc8.Given as goal
 
-abbrev pub invariant-loop-i : goal.invariant-loop-i
-invariant-loop-i l =
-    (l.i ≤ length l.bytes) × (crc_from taps8 l.register (drop l.i l.bytes) ≡ crc_from taps8 0 l.bytes)
-
-abbrev pub decreases-loop-i : goal.decreases-loop-i
-decreases-loop-i l = length l.bytes - l.i
+abbrev pub invariant-loop-byte : goal.invariant-loop-byte
+invariant-loop-byte l = crc_from TAPS8 l.register (drop l.byte-index l.bytes) ≡ crc_from TAPS8 0 l.bytes

@@ -1,26 +1,63 @@
--- `forming::form_write_read` meets its contract: the number is worked out first, and only where it is 0 is the packet laid.
-use Rattle.std.proofs.Common.{◌≡◌, sym, ap, ◌∙◌, Bool, ◌+◌, length}
+-- `forming::form_write_read` meets its contract: each test in its turn is an outcome, and behind them the packet is laid.
+use Rattle.std.proofs.Common.{◌∙◌, ap, ap₂, Bool, ◌&&◌, [], ◌∷◌, ℕ, length, arith}
 use Rattle.packet.specs.Request.{write_read}
-use Rattle.forming.specs.Forming.{number_for, form_number}
-use Rattle.forming.proofs.Forming.{number_write_read, kept, laid}
+use Rattle.forming.specs.Buffer.{over}
+use Rattle.forming.specs.Forming.{in_limits, good_count}
+use Rattle.forming.proofs.Forming.{outside, short, laid, write_read_laid, length_write_read}
 use Rattle.forming.proofs.form_write_read.Goals as goal
 
-pub returns-then-number-eq-DONE : goal.returns-then-number-eq-DONE
-returns-then-number-eq-DONE c =
+pub returns-in_err-to : goal.returns-in_err-to
+unfolding in_limits
+returns-in_err-to c =
     let a = c.args in
-    let d = a.buffer.now in
-    let number : c.number_for-number.result ≡ form_number (write_read a.address a.data.now a.count) d
-    = c.number_for-number.ensures ∙ ap (λ (t : Bool). number_for t (length a.data.now + 6) (length d)) c.both_in_limits-good.ensures
-    ∙ number_write_read a.address a.data.now a.count d in
-    let r = laid (write_read a.address a.data.now a.count) d c.lay_write_read.new.buffer (sym number ∙ c.if-number-eq-DONE.true) c.lay_write_read.ensures in
-    record { value = number; buffer_after = r.1 }
+    let why = c.in_err-to.ensures in
+    let r =
+    outside (write_read a.address a.data.now a.count) a.buffer.now c.from_residual.result _ c.from_residual.ensures.1 why.1
+    (ap (λ (t : Bool). t && good_count (length a.data.now) && good_count a.count) why.0) in
+    record { value = r.0; buffer_after = r.1 }
 
-pub returns-else-number-eq-DONE : goal.returns-else-number-eq-DONE
-returns-else-number-eq-DONE c =
+pub returns-in_err-len : goal.returns-in_err-len
+unfolding in_limits
+returns-in_err-len c =
     let a = c.args in
-    let d = a.buffer.now in
-    let number : c.number_for-number.result ≡ form_number (write_read a.address a.data.now a.count) d
-    = c.number_for-number.ensures ∙ ap (λ (t : Bool). number_for t (length a.data.now + 6) (length d)) c.both_in_limits-good.ensures
-    ∙ number_write_read a.address a.data.now a.count d in
-    let r = kept (write_read a.address a.data.now a.count) d c.number_for-number.result number c.if-number-eq-DONE.false in
+    let why = c.in_err-len.ensures in
+    let r =
+    outside (write_read a.address a.data.now a.count) a.buffer.now c.from_residual-in_err-len.result _ c.from_residual-in_err-len.ensures.1 why.1
+    (ap (λ (t : Bool). t && good_count a.count) (ap₂ ◌&&◌ c.in_ok-to.ensures.0 why.0)) in
+    record { value = r.0; buffer_after = r.1 }
+
+pub returns-in_err-count : goal.returns-in_err-count
+unfolding in_limits
+returns-in_err-count c =
+    let a = c.args in
+    let why = c.in_err-count.ensures in
+    let r =
+    outside (write_read a.address a.data.now a.count) a.buffer.now c.from_residual-in_err-count.result _ c.from_residual-in_err-count.ensures.1 why.1
+    (ap₂ ◌&&◌ (ap₂ ◌&&◌ c.in_ok-to.ensures.0 c.in_ok-len.ensures.0) why.0) in
+    record { value = r.0; buffer_after = r.1 }
+
+pub returns-in_err-roomy : goal.returns-in_err-roomy
+unfolding in_limits
+returns-in_err-roomy c =
+    let a = c.args in
+    let why = c.in_err-roomy.ensures in
+    let r =
+    short (write_read a.address a.data.now a.count) a.buffer.now c.from_residual-in_err-roomy.result _ c.from_residual-in_err-roomy.ensures.1 why.1
+    (ap₂ ◌&&◌ (ap₂ ◌&&◌ c.in_ok-to.ensures.0 c.in_ok-len.ensures.0) c.in_ok-count.ensures.0)
+    (omega (arith, why.0, length_write_read a.address a.data.now a.count)) in
+    record { value = r.0; buffer_after = r.1 }
+
+pub returns : goal.returns
+unfolding in_limits
+returns c =
+    let a = c.args in
+    let r =
+    laid (write_read a.address a.data.now a.count) a.buffer.now c.put_seal.new.buffer
+    (ap₂ ◌&&◌ (ap₂ ◌&&◌ c.in_ok-to.ensures.0 c.in_ok-len.ensures.0) c.in_ok-count.ensures.0)
+    (omega (arith, c.in_ok-roomy.ensures, length_write_read a.address a.data.now a.count))
+    (c.put_seal.ensures
+    ∙ rw c.in_ok-count.ensures.1
+    (write_read_laid a.address a.data.now a.count a.buffer.now c.put_head.new.buffer c.put_data.new.buffer
+    (c.put_head.ensures ∙ ap₂ (λ (x y : ℕ). over (0x2D ∷ x ∷ y ∷ []) a.buffer.now) c.in_ok-to.ensures.1 c.in_ok-len.ensures.1)
+    c.put_data.ensures (omega (arith, c.in_ok-roomy.ensures)))) in
     record { value = r.0; buffer_after = r.1 }

@@ -1,14 +1,9 @@
 -- `forming::put_data` meets its contract: after i turns the first i bytes of the data lie at the place and all other bytes are as they were.
-use Rattle.std.proofs.Common.{◌≡◌, refl, sym, ap, ◌∙◌, List, ℕ, ◌+◌, length, get_or, add-one, arith}
+use Rattle.std.proofs.Common.{◌≡◌, sym, ap, ◌∙◌, List, ℕ, ◌+◌, length, get_or, add-one, arith}
 use lib.ListN.{set, length-set}
-use lib.Seq.{paste, paste-zero, paste-suc}
+use lib.Seq.{paste, paste-suc}
 use Rattle.forming.proofs.Buffer.{placed_done}
 use Rattle.forming.proofs.put_data.Goals as goal
-
-pub loop-i-init : goal.loop-i-init
-loop-i-init c =
-    let a = c.args in
-    (omega arith, refl, paste-zero a.buffer.now a.place a.data.now)
 
 pub loop-i-preserved : goal.loop-i-preserved
 loop-i-preserved c =
@@ -16,9 +11,8 @@ loop-i-preserved c =
     let d = a.buffer.now in
     let s = a.data.now in
     let i = c.loop-i.i in (
-      omega arith,
-      simp length-set c.loop-i.invariant.1,
-      ap (λ (b : List ℕ). set b (a.place + i) (get_or s i 0)) c.loop-i.invariant.2
+      simp length-set c.loop-i.invariant.0,
+      ap (λ (b : List ℕ). set b (a.place + i) (get_or s i 0)) c.loop-i.invariant.1
           ∙ paste-suc d a.place s i 0 (omega arith) (omega arith)
           ∙ ap (paste d a.place s) (sym (add-one i)),
     )
@@ -29,4 +23,4 @@ returns c =
     let d = a.buffer.now in
     let s = a.data.now in
     let all : c.loop-i.i ≡ length s = omega arith in
-    c.loop-i.invariant.2 ∙ ap (paste d a.place s) all ∙ placed_done a.place s d
+    c.loop-i.invariant.1 ∙ ap (paste d a.place s) all ∙ placed_done a.place s d

@@ -1,9 +1,8 @@
 -- `triplets` meets its contract: what is left of the walk is the triplets from bit k on.
-use mathlib.Core.Path.{◌≡◌, refl, sym, ap, ◌∙◌}
+use mathlib.Core.Path.{sym, ap, ◌∙◌}
 use mathlib.Core.List.{[], ◌∷◌}
 use Prim.Native.Nat.{ℕ}
 use native.Mathlib.Omega.{arith}
-use lib.Dec.{lit<}
 use Rattle.bridge.specs.Bridge.{command}
 use Rattle.pass.specs.declared.Walk.{Walk}
 use Rattle.pass.specs.Pass.{triplet_byte}
@@ -11,17 +10,13 @@ use Rattle.pass.proofs.Walked.{tripled_by, walked_next, walked_none}
 use borrow.Author.Rules.{rules}
 use Rattle.pass.proofs.triplets.Goals as goal
 
-pub loop-k-init : goal.loop-k-init
-loop-k-init c = (omega arith, lit< tt, refl)
-
 pub loop-k-preserved : goal.loop-k-preserved
 loop-k-preserved c =
     let a = c.args in
     let l = c.loop-k in
     let w : Walk = record { bridge = l.bridge; id = l.id; conflict = l.conflict } in (
-      omega arith,
       c.with_bit-id.ensures.1,
-      l.invariant.2
+      l.invariant.1
           ∙ walked_next _ _ _ _ (omega arith)
           (tripled_by a.previous a.before l.k w
           (c.command-bridge.ensures
@@ -30,6 +25,4 @@ loop-k-preserved c =
     )
 
 pub returns : goal.returns
-returns c =
-    let l = c.loop-k in
-    let stop : l.k ≡ 64 = omega arith in sym (l.invariant.2 ∙ walked_none _ _ _ _ stop)
+returns c = sym (c.loop-k.invariant.1 ∙ walked_none _ _ _ _ (omega arith))

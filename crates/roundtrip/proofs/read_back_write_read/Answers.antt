@@ -1,33 +1,9 @@
--- `roundtrip::read_back_write_read` meets its contract: what forming leaves at the front of the buffer is the packet, and reading that gives the request.
-use Rattle.std.proofs.Common.{sym, ap, ◌∙◌, List, ℕ, ◌+◌, length, arith}
-use lib.ListN.{take}
-use lib.Seq.{length-take-le}
-use Rattle.packet.specs.Request.{write_read}
-use Rattle.reading.specs.Reading.{reading_of}
-use Rattle.forming.proofs.Forming.{length_write_read}
-use Rattle.roundtrip.proofs.Back.{fits_formed, back_formed, back_refused}
+-- `roundtrip::read_back_write_read`: a refused request is refused as forming refused it.
+use Rattle.std.proofs.lemmas.Result.{err_from_is_err_and}
+use Rattle.roundtrip.proofs.Back.{back_refused}
 use Rattle.roundtrip.proofs.read_back_write_read.Goals as goal
 
-pub returns-then-number-ne0-clause-value : goal.returns-then-number-ne0-clause-value
-returns-then-number-ne0-clause-value c =
-    let a = c.args in
-    back_refused (write_read a.address a.data.now a.count) a.buffer.now c.form_write_read-number.result c.form_write_read-number.ensures.value c.if-number-ne0.true
-
-pub slice_bounds-read-end : goal.slice_bounds-read-end
-slice_bounds-read-end c =
-    let a = c.args in
-    let fits = fits_formed (write_read a.address a.data.now a.count) a.buffer.now (sym c.form_write_read-number.ensures.value ∙ c.if-number-ne0.false) in
-    omega (arith, length_write_read a.address a.data.now a.count, fits)
-
-pub slice_bounds-read-end-2 : goal.slice_bounds-read-end-2
-slice_bounds-read-end-2 c =
-    let a = c.args in
-    let fits = fits_formed (write_read a.address a.data.now a.count) a.buffer.now (sym c.form_write_read-number.ensures.value ∙ c.if-number-ne0.false) in
-    sym (length-take-le _ _ (omega (arith, length_write_read a.address a.data.now a.count, fits)))
-
-pub returns-clause-value : goal.returns-clause-value
-returns-clause-value c =
-    let a = c.args in
-    c.read.ensures
-    ∙ ap (λ (x : List ℕ). reading_of (take (length a.data.now + 6) x)) c.form_write_read-number.ensures.buffer_after
-    ∙ back_formed (write_read a.address a.data.now a.count) a.buffer.now (length a.data.now + 6) (length_write_read a.address a.data.now a.count) (sym c.form_write_read-number.ensures.value ∙ c.if-number-ne0.false)
+pub returns-in_err-form_write_read-clause-value : goal.returns-in_err-form_write_read-clause-value
+returns-in_err-form_write_read-clause-value c =
+    let e = err_from_is_err_and c.from_residual.result c.from_residual.ensures.1 in
+    rw (e.1, e.2) (back_refused _ _ _ c.in_err-form_write_read.ensures.value)

@@ -1,10 +1,10 @@
--- The lines left to print bring the buffer to what is promised, and each turn leaves one event fewer.
-use Rattle.std.proofs.Common.{◌+◌, ◌-◌}
+-- The lines left to print bring the buffer to what is promised.
+use Rattle.std.proofs.Common.{◌≡◌}
 use Rattle.transcript.proofs.Events.{Runs}
 use Rattle.transcript.proofs.lines.Given as goal
 
-abbrev pub invariant-loop-number : goal.invariant-loop-number
-invariant-loop-number l = Runs l.script l.count l.initial.out l.out l.bridge l.number l.place l.at
-
-abbrev pub decreases-loop-number : goal.decreases-loop-number
-decreases-loop-number l = l.count + 1 - l.number
+abbrev pub invariant-loop-before : goal.invariant-loop-before
+invariant-loop-before l =
+    Runs l.reader.script.now l.before-end l.initial.lines.out.now l.bridge l.before l.reader.place l.lines
+    × (l.reader.script.now ≡ l.script)
+    × (l.lines.out.ghost_name ≡ l.initial.lines.out.ghost_name)

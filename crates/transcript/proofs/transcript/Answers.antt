@@ -2,7 +2,7 @@
 use mathlib.Core.Path.{sym, ap, ◌∙◌}
 use mathlib.Core.Bool.{true, false}
 use native.Mathlib.Omega.{arith}
-use Rattle.transcript.specs.declared.Run.TheVariants.{Done}
+use Rattle.std.proofs.Common.{Ok}
 use Rattle.transcript.specs.Transcript.{lines_of, run_of, run_buffer}
 use Rattle.transcript.proofs.Buffer.{put_front}
 use Rattle.transcript.proofs.Events.{script_number_case}
@@ -15,7 +15,7 @@ returns-then-is_script c =
     let form = sym c.is_script.ensures ∙ c.if-is_script.true in
     let front = put_front c.lines.ensures.0 (omega arith) in
     record {
-      value = simp (script_number_case s true form) (ap Done front.0);
+      value = simp (script_number_case s true form) (ap Ok front.0);
       out_after = simp (script_number_case s true form) front.1;
     }
 

@@ -1,7 +1,0 @@
--- `byte::at` meets its contract: behind the end `get_or` gives its default.
-use mathlib.Core.Path.{sym}
-use lib.ListN.{get_or-eq_default}
-use Rattle.byte.proofs.at.Goals as goal
-
-pub returns-else-place-bytes : goal.returns-else-place-bytes
-returns-else-place-bytes c = sym (get_or-eq_default c.args.bytes.now 0 c.if-place-bytes.false)

@@ -1,9 +1,0 @@
--- `probe::code_with` meets its contract in each of the two levels.
-use native.Mathlib.Omega.{arith}
-use Rattle.probe.proofs.code_with.Goals as goal
-
-pub returns-then-level : goal.returns-then-level
-returns-then-level c = simp c.if-level.true (omega arith)
-
-pub returns-else-level : goal.returns-else-level
-returns-else-level c = simp c.if-level.false (omega arith)

@@ -1,0 +1,36 @@
+-- `Wire::emptied` meets its contract: of the chips gone through each has its turn.
+use mathlib.Core.Path.{refl, ap, ◌∙◌}
+use mathlib.Core.List.{List}
+use native.Mathlib.Omega.{arith}
+use lib.ListN.{take, length-take}
+use Rattle.probe.specs.declared.Probe.{Probe}
+use Rattle.chip.specs.declared.Chip.{Chip}
+use Rattle.wire.specs.declared.Chips.{Chips}
+use Rattle.wire.specs.Pairs.{paired}
+use Rattle.wire.specs.Wire.{emptied_by, emptied_on}
+use Rattle.wire.proofs.Beside.{paired_set, paired_all}
+use Rattle.wire.proofs.Wire.emptied.Goals as goal
+
+pub loop-i-init : goal.loop-i-init
+unfolding paired
+loop-i-init c = refl
+
+pub loop-i-preserved : goal.loop-i-preserved
+loop-i-preserved c =
+    let l = c.loop-i in
+    let e = c.pairs-n.ensures in
+    let m = c.args.self in
+    let within = length-take c.pairs-n.result m.chips.table in
+    paired_set (emptied_by c.args.speed) m.line.probes (take c.pairs-n.result m.chips.table) l.c-items l.i _ _ _ (omega (arith, e.0, e.1, within))
+    c.loop-i-test.true l.invariant c.empty.ensures
+
+pub returns : goal.returns
+unfolding emptied_on
+returns c =
+    let l = c.loop-i in
+    let e = c.pairs-n.ensures in
+    let m = c.args.self in
+    let within = length-take c.pairs-n.result m.chips.table in
+    ap {B = Chips} (λ (t : List Chip). record { table = t; count = m.chips.count })
+    (paired_all (emptied_by c.args.speed) m.line.probes m.chips.table l.c-items c.pairs-n.result l.i l.invariant (omega (arith, e.0, e.2, within))
+    ∙ ap (λ (ps : List Probe). paired (emptied_by c.args.speed) ps m.chips.table) e.3)
