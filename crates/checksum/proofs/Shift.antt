@@ -1,4 +1,5 @@
 -- The shift register is linear over XOR, so a byte goes in by one entry of a table. Every law holds for any taps and so for both checksums.
+--   xor_half         the half of an XOR; xor_swap, the last two of three change places
 --   shifts_xor       bits that go in one by one may as well be added at the start
 --   shifts_linear    the register of a sum is the sum of the registers
 --   shifts_high      a number that stands above the bits that move out comes down unchanged
@@ -23,11 +24,11 @@ use lib.Dec.{eqb, lit<}
 use lib.Pow.{pow_pos, split}
 use Rattle.checksum.specs.Register.{shifted, shifts, entered, crc_from, crc8_of, crc16_of, taps, taps8, taps16}
 
-xor_half : (a b : ℕ) → bit_xor a b / 2 ≡ bit_xor (a / 2) (b / 2)
+pub xor_half : (a b : ℕ) → bit_xor a b / 2 ≡ bit_xor (a / 2) (b / 2)
 xor_half a b = xor_shr a b 1
 
 -- the last two of three change places
-xor_swap : (a b c : ℕ) → bit_xor (bit_xor a b) c ≡ bit_xor (bit_xor a c) b
+pub xor_swap : (a b c : ℕ) → bit_xor (bit_xor a b) c ≡ bit_xor (bit_xor a c) b
 xor_swap a b c = xor_assoc a b c ∙ ap (bit_xor a) (xor_comm b c) ∙ sym (xor_assoc a c b)
 
 -- what the taps add to a register whose low bit and the bit that goes in sum to f
