@@ -12,7 +12,7 @@ ghost use Rattle.reading.specs.Reading.{is_unknown, wanted_of, zero_count, low_b
 
 // What stands for the place where there is none.
 // As it is: C takes number and place as one number (include/trelvox.h), and the definitions say 0 where there is none.
-const NO_PLACE: u16 = 0;
+pub const NO_PLACE: u16 = 0;
 
 // The code, the address, where the write data starts in the packet and how long it is, and R.
 // As it is: numbers for the code and for where the data lies: document 01 wants the parts so (docs/FORMS.md); `data_of` gives the slice.
