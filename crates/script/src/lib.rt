@@ -20,10 +20,13 @@ pub const FIRST: usize = 16;
 // How many bits a byte has.
 pub const BYTE: u32 = 8;
 
-// How many bits an event's kind has, and an event's head: the kind, and the two bits behind it, which of a write are its byte count.
+// How many bits an event's kind has, the byte count of a write, and an event's head: the kind, and the two bits behind it, which of a write
+// are that count.
 pub const KIND: usize = 2;
 
-pub const HEAD: usize = 4;
+pub const LENGTH: u32 = 2;
+
+pub const HEAD: usize = KIND + LENGTH as usize;
 
 // The most bits that are read at once: wherever they begin, they lie in two bytes.
 const WIDEST: u32 = 8;
