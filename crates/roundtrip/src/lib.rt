@@ -56,7 +56,7 @@ impl Refusal {
         ensures { result ≡ place_of self }
     {
         match self {
-            Refusal::Forming(_) => 0,
+            Refusal::Forming(_) => reading::NO_PLACE,
             Refusal::Reading(refusal) => refusal.place(),
         }
     }
