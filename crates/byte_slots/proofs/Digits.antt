@@ -1,7 +1,7 @@
 -- The binary digits of numbers.
 --   digit_odd                  the digit that a test of the low digit gives
 --   half_of                    the digits above place k, halved
---   past_id                    past its last bit an ID has nothing
+--   past_last                  past its last digit a number has nothing; past_id, past its last bit an ID
 --   low_suc                    the low n + 1 digits: the lowest, and n of the half
 --   low_half, low_low          their half, and their lowest
 --   ones_half, ones_low        of digits that are all 1
@@ -32,7 +32,7 @@ half_of i k =
     div-div-eq-div-mul i (2 ^ k) 2 ∙ ap (λ (m : ℕ). i / m) (sym (pow-suc 2 k)) ∙ ap (λ (m : ℕ). i / 2 ^ m) (omega arith)
 
 -- a number of n digits has nothing past the last
-past_last : (n i k : ℕ) → i < 2 ^ n → n ≤ k → i / 2 ^ k ≡ 0
+pub past_last : (n i k : ℕ) → i < 2 ^ n → n ≤ k → i / 2 ^ k ≡ 0
 past_last n i k h p = div-eq_of_lt (lt_of_lt_of_le h (pow_mono p))
 
 pub low_suc : (n m : ℕ) → m % 2 ^ suc n ≡ m % 2 + 2 * (m / 2 % 2 ^ n)

@@ -1,14 +1,14 @@
 -- One turn of a loop, and slots one after the other.
---   took_bits_next                a loop over the bits of a byte
+--   took_bits_next, slots_next     a loop over the bits of a byte
 --   meet_next                     a loop over the probes
 --   gathered f g v n y x a        the byte y once the levels of n slots at the speed v with the low bits of x have gone in at its top
---   turn                          one slot more
+--   gathered_next                 one level more; turn, one slot more
 --   gathered_levels               eight levels that go into 0 are the levels, low bit first
---   slots_line, levels_line       slots of a line
+--   slots_line, levels_line       slots of a line; slots_line_next and gathered_line_next, one of them more
 use mathlib.Core.Path.{◌≡◌, refl, sym, ap, ◌∙◌}
 use mathlib.Core.Bool.{Bool}
 use mathlib.Core.List.{List, [], ◌∷◌}
-use Prim.Native.Nat.{ℕ, zero, suc, ◌+◌, ◌*◌, ◌/◌, ◌%◌, ◌^◌, ◌<◌}
+use Prim.Native.Nat.{ℕ, zero, suc, ◌+◌, ◌-◌, ◌*◌, ◌/◌, ◌%◌, ◌^◌, ◌<◌}
 use native.Mathlib.Numerals.{add-one}
 use native.Mathlib.Omega.{arith}
 use lib.Bits.{bit_and}
@@ -28,7 +28,7 @@ unfolding took_bits
 took_bits_next n m x p e = sym (ap (λ (k : ℕ). took_bits k x p) e)
 
 module _ {A : Type 0} (f : ℕ → Bool → A → Bool) (g : ℕ → Bool → A → A) (v : ℕ) where
-  slots_next : (n m x : ℕ) (a : A) → n ≡ suc m → slots_in f g v m (x / 2) (slot_in f g v (eqb (x % 2) 1) a) ≡ slots_in f g v n x a
+  pub slots_next : (n m x : ℕ) (a : A) → n ≡ suc m → slots_in f g v m (x / 2) (slot_in f g v (eqb (x % 2) 1) a) ≡ slots_in f g v n x a
   unfolding slots_in
   slots_next n m x a e = sym (ap (λ (k : ℕ). slots_in f g v k x a) e)
 
@@ -38,7 +38,7 @@ module _ {A : Type 0} (f : ℕ → Bool → A → Bool) (g : ℕ → Bool → A 
   gathered zero y x a = y
   gathered (suc n) y x a = gathered n (y / 2 + digit (f v (eqb (x % 2) 1) a) * 128) (x / 2) (slot_in f g v (eqb (x % 2) 1) a)
 
-  gathered_next : (n m y x : ℕ) (a : A) → n ≡ suc m
+  pub gathered_next : (n m y x : ℕ) (a : A) → n ≡ suc m
       → gathered m (y / 2 + digit (f v (eqb (x % 2) 1) a) * 128) (x / 2) (slot_in f g v (eqb (x % 2) 1) a) ≡ gathered n y x a
   unfolding gathered
   gathered_next n m y x a e = sym (ap (λ (k : ℕ). gathered k y x a) e)
@@ -72,6 +72,9 @@ module _ {A : Type 0} (f : ℕ → Bool → A → Bool) (g : ℕ → Bool → A 
 
 -- ---- the line
 
+one_less : (n : ℕ) → 0 < n → n ≡ suc (n - 1)
+one_less n h = omega arith
+
 module _ (v : ℕ) where
   pub slots_line : (n x : ℕ) (l : Line) → slots_in level line_took v n x l ≡ slots v n x l
   unfolding slot_in slots_in slot slots
@@ -83,6 +86,15 @@ module _ (v : ℕ) where
   levels_line zero x l = refl
   levels_line (suc n) x l =
       ap (λ (m : ℕ). digit (level v (eqb (x % 2) 1) l) + 2 * m) (levels_line n (x / 2) (slot v (eqb (x % 2) 1) l))
+
+  pub slots_line_next : (n x : ℕ) (l : Line) → 0 < n → slots v (n - 1) (x / 2) (slot v (eqb (x % 2) 1) l) ≡ slots v n x l
+  unfolding slots
+  slots_line_next n x l h = sym (ap (λ (k : ℕ). slots v k x l) (one_less n h))
+
+  pub gathered_line_next : (n y x : ℕ) (l : Line) → 0 < n
+      → gathered level line_took v (n - 1) (y / 2 + digit (level v (eqb (x % 2) 1) l) * 128) (x / 2) (slot v (eqb (x % 2) 1) l) ≡ gathered level line_took v n y x l
+  unfolding slot_in slot
+  gathered_line_next n y x l h = gathered_next level line_took v n (n - 1) y x l (one_less n h)
 
 -- ---- what all probes have in common
 

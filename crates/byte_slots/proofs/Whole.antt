@@ -1,4 +1,9 @@
 -- A probe that takes several slots in one go.
+--   took_bits_rests                          one that rests is not changed
+--   sending_next, sending_last              one that sends its ID goes on, or is selected after the last bit
+--   matching_next, -last, -differs          one that matches its ID goes on if all bits agree, is selected after the last, or has differed
+--   taking_whole                            a code of which no bit has come yet is the bits
+-- The same of the eight bits of a byte:
 --   resting_byte                            one that rests is not changed
 --   taking_byte                             a code of which no bit has come yet is the byte
 --   sending_byte, sent_byte                 one that sends its ID goes on, or is selected after the last bit
@@ -19,7 +24,7 @@ use Rattle.probe.proofs.Rests.{took_rests}
 use Rattle.byte_slots.specs.Foresight.{took_bits}
 use Rattle.byte_slots.proofs.Digits.{digit_odd, low_suc, half_of, doubled, moved_weight, moved_down}
 
-took_bits_rests : (n x : ℕ) (p : Probe) → rests p ≡ true → took_bits n x p ≡ p
+pub took_bits_rests : (n x : ℕ) (p : Probe) → rests p ≡ true → took_bits n x p ≡ p
 unfolding took_bits
 took_bits_rests zero x p e = refl
 took_bits_rests (suc n) x p e = ap (took_bits n (x / 2)) (took_rests (eqb (x % 2) 1) p e) ∙ took_bits_rests n (x / 2) p e
@@ -36,7 +41,7 @@ unfolding took took_in took_sending
 sending_over k b p e h =
     ap (λ (c : Condition). took_in c b p) e ∙ ap (λ (t : Bool). in_condition p (cond t Selected (Sending (k + 1)))) (le-leb 63 k h)
 
-sending_next : (n k x : ℕ) (p : Probe) → p.condition ≡ Sending k → k + n < 64 → took_bits n x p ≡ in_condition p (Sending (k + n))
+pub sending_next : (n k x : ℕ) (p : Probe) → p.condition ≡ Sending k → k + n < 64 → took_bits n x p ≡ in_condition p (Sending (k + n))
 unfolding took_bits
 sending_next zero k x p e h = ap (in_condition p) (e ∙ ap Sending (omega arith))
 sending_next (suc n) k x p e h =
@@ -44,7 +49,7 @@ sending_next (suc n) k x p e h =
     ∙ sending_next n (k + 1) (x / 2) (in_condition p (Sending (k + 1))) refl (omega arith)
     ∙ ap (λ (j : ℕ). in_condition p (Sending j)) (omega arith)
 
-sending_last : (n k x : ℕ) (p : Probe) → p.condition ≡ Sending k → k + suc n ≡ 64 → took_bits (suc n) x p ≡ in_condition p Selected
+pub sending_last : (n k x : ℕ) (p : Probe) → p.condition ≡ Sending k → k + suc n ≡ 64 → took_bits (suc n) x p ≡ in_condition p Selected
 unfolding took_bits
 sending_last zero k x p e h = sending_over k (eqb (x % 2) 1) p e (omega arith)
 sending_last (suc n) k x p e h =
@@ -108,7 +113,7 @@ same_both n i k x e f =
     let rest = ap (λ (m : ℕ). m % 2 ^ n) (half_of i k) ∙ f in
     omega (arith, e, rest, low_suc n (i / 2 ^ k), low_suc n x)
 
-matching_next : (n k : ℕ) (f : Bool) (x : ℕ) (p : Probe) → p.condition ≡ Matching k f → k + n < 64 → Same n p.id k x
+pub matching_next : (n k : ℕ) (f : Bool) (x : ℕ) (p : Probe) → p.condition ≡ Matching k f → k + n < 64 → Same n p.id k x
     → took_bits n x p ≡ in_condition p (Matching (k + n) f)
 unfolding took_bits
 matching_next zero k f x p e h s = ap (in_condition p) (e ∙ ap (λ (j : ℕ). Matching j f) (omega arith))
@@ -117,7 +122,7 @@ matching_next (suc n) k f x p e h s =
     ∙ matching_next n (k + 1) f (x / 2) (in_condition p (Matching (k + 1) f)) refl (omega arith) (same_rest n p.id k x s)
     ∙ ap (λ (j : ℕ). in_condition p (Matching j f)) (omega arith)
 
-matching_last : (n k : ℕ) (f : Bool) (x : ℕ) (p : Probe) → p.condition ≡ Matching k f → k + suc n ≡ 64 → Same (suc n) p.id k x
+pub matching_last : (n k : ℕ) (f : Bool) (x : ℕ) (p : Probe) → p.condition ≡ Matching k f → k + suc n ≡ 64 → Same (suc n) p.id k x
     → took_bits (suc n) x p ≡ with_mark p true Selected
 unfolding took_bits
 matching_last zero k f x p e h s = matching_over k f x p e (omega arith) (same_low 0 p.id k x s)
@@ -132,7 +137,7 @@ matching_off n k f x p e other =
     ap (took_bits n (x / 2)) (matching_one k f false (eqb (x % 2) 1) p e (disagree p.id k x other))
     ∙ took_bits_rests n (x / 2) (differed f p) refl
 
-matching_differs : (n k : ℕ) (f : Bool) (x : ℕ) (p : Probe) → p.condition ≡ Matching k f → k + n ≤ 64 → (Same n p.id k x → ⊥)
+pub matching_differs : (n k : ℕ) (f : Bool) (x : ℕ) (p : Probe) → p.condition ≡ Matching k f → k + n ≤ 64 → (Same n p.id k x → ⊥)
     → took_bits n x p ≡ differed f p
 unfolding took_bits
 matching_differs zero k f x p e h s = absurd (s (omega arith))
@@ -176,7 +181,7 @@ taking_bits (suc n) k c x p e h w =
     ∙ ap (λ (m : ℕ). c / 2 ^ suc (suc n) + 2 ^ k * m)
     (ap (λ (d : ℕ). d + 2 * (x / 2 % 2 ^ suc n)) (digit_odd x) ∙ sym (low_suc (suc n) x)))
 
-taking_whole : (k c x y : ℕ) (p : Probe) → p.condition ≡ Taking k c → k ≡ 0 → c < 256 → x < 256 → x ≡ y → took_bits 8 x p ≡ obeyed y p
+pub taking_whole : (k c x y : ℕ) (p : Probe) → p.condition ≡ Taking k c → k ≡ 0 → c < 256 → x < 256 → x ≡ y → took_bits 8 x p ≡ obeyed y p
 taking_whole k c x y p e first h g same =
     taking_bits 7 0 c x p (e ∙ ap (λ (j : ℕ). Taking j c) first) refl refl ∙ ap (λ (m : ℕ). obeyed m p) (omega arith)
 
