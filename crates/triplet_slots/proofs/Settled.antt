@@ -1,10 +1,12 @@
 -- The three slots of a triplet on a line where all is settled.
 --   either_way                              a settled probe rests, or is reached in the first slot of a search bit
 --   sends_after v a p                        what p lets the line be in the slot after one of level a
---   sends_resting, sends_first              what such a probe sends in the first two slots
+--   settled_rests, settled_first             a probe that does is settled
+--   rests_after, first_sent, second_sent    what such a probe sends in the first two slots; sends_resting, sends_first, all of it at once
 --   second_level_lem                            the level of a second write-one slot
 --   triplet_settled                         the line after the triplet
---   decided_on, decided_last, decided_off     what a searching probe is then: the level is its bit, and that the last; the level is not
+--   outcome, decided_by                     what a searching probe is then, by whether the level is its bit and that the last
+--   decided_on, decided_last, decided_off     the level is its bit, and that the last; the level is not
 --   all_more                                a test of the first entries of a table, with one more
 use mathlib.Core.Path.{◌≡◌, refl, sym, ap, ap₂, ◌∙◌}
 use mathlib.Core.Bool.{Bool, true, false, cond, not, ◌&&◌, false≢true}
@@ -50,7 +52,8 @@ either_way {A} v p e f g = go p.condition refl e
     go (Searching k s) q h = at k s q h
     go Selected q h = f (ap rests_in q)
 
-settled_rests : (v : ℕ) (p : Probe) → rests p ≡ true → settled v p ≡ true
+-- what settles it, the other way round
+pub settled_rests : (v : ℕ) (p : Probe) → rests p ≡ true → settled v p ≡ true
 unfolding settled settled_in rests rests_in
 settled_rests v p e = go p.condition e
   where
@@ -62,14 +65,14 @@ settled_rests v p e = go p.condition e
     go (Searching k s) h = absurd (false≢true h)
     go Selected h = refl
 
-settled_first : (v k : ℕ) (p : Probe) → p.condition ≡ Searching k First → reaches v p ≡ true → settled v p ≡ true
+pub settled_first : (v k : ℕ) (p : Probe) → p.condition ≡ Searching k First → reaches v p ≡ true → settled v p ≡ true
 unfolding settled settled_in
 settled_first v k p e r = ap (settled_in (reaches v p)) e ∙ both (reaches v p) true r refl
 
 abbrev pub sends_after : ℕ → Bool → Probe → Bool
 sends_after v a p = sends_at v (took_at v a p)
 
-rests_after : (v : ℕ) (a : Bool) (p : Probe) → rests p ≡ true → sends_after v a p ≡ true
+pub rests_after : (v : ℕ) (a : Bool) (p : Probe) → rests p ≡ true → sends_after v a p ≡ true
 rests_after v a p e = ap (sends_at v) (took_at_rests v a p e) ∙ sends_at_rests v p e
 
 module _ (v k : ℕ) (p : Probe) (e : p.condition ≡ Searching k First) (r : reaches v p ≡ true) where
@@ -82,11 +85,11 @@ module _ (v k : ℕ) (p : Probe) (e : p.condition ≡ Searching k First) (r : re
   unfolding took took_in took_searching reaches
   to_third b = took_at_reached v b (in_condition p (Searching k Second)) true r
 
-  first_sent : sends_at v p ≡ bit_of p.id k
+  pub first_sent : sends_at v p ≡ bit_of p.id k
   unfolding sends sends_in sends_searching
   first_sent = sends_at_reached v p true r ∙ ap (sends_in p.id) e
 
-  second_sent : (a : Bool) → sends_after v a p ≡ not (bit_of p.id k)
+  pub second_sent : (a : Bool) → sends_after v a p ≡ not (bit_of p.id k)
   unfolding sends sends_in sends_searching reaches
   second_sent a = ap (sends_at v) (to_second a) ∙ sends_at_reached v (in_condition p (Searching k Second)) true r
 
@@ -137,23 +140,26 @@ after_three v a b w p e =
     ∙ took_at_rests v w p s ∙ sym (decided_rests w p s))
     (λ k f r. third_taken v k p f r a b w)
 
--- what a probe is after the third slot of the search bit k, by whether the level is its bit and whether that is the last
-module _ (w : Bool) (p : Probe) (k : ℕ) (c : Slot) (e : p.condition ≡ Searching k c) where
-  outcome : (s t : Bool) → agrees w p.id k ≡ s → leb 63 k ≡ t
-      → decided w p ≡ cond s (cond t (with_mark p true Selected) (in_condition p (Searching (k + 1) First))) (in_condition p Deaf)
-  unfolding decided decided_in took_searching
-  outcome s t same last =
-      ap (λ (q : Condition). decided_in q w p) e
-      ∙ ap₂ (λ (u x : Bool). cond u (cond x (with_mark p true Selected) (in_condition p (Searching (k + 1) First))) (in_condition p Deaf)) same last
+-- what a searching probe is then at bit k, by whether the level is its bit and whether that is the last
+abbrev pub outcome : ℕ → Bool → Bool → Probe → Probe
+outcome k same last p =
+    cond same (cond last (with_mark p true Selected) (in_condition p (Searching (k + 1) First))) (in_condition p Deaf)
 
+pub decided_by : (k : ℕ) (w : Bool) (p : Probe) {c : Slot} (s t : Bool)
+    → p.condition ≡ Searching k c → agrees w p.id k ≡ s → leb 63 k ≡ t → decided w p ≡ outcome k s t p
+unfolding decided decided_in took_searching
+decided_by k w p s t e same last =
+    ap (λ (c : Condition). decided_in c w p) e ∙ ap₂ (λ (u x : Bool). outcome k u x p) same last
+
+module _ (w : Bool) (p : Probe) (k : ℕ) (c : Slot) (e : p.condition ≡ Searching k c) where
   pub decided_on : agrees w p.id k ≡ true → k < 63 → decided w p ≡ in_condition p (Searching (k + 1) First)
-  decided_on same h = outcome true false same (lt-leb 63 k h)
+  decided_on same h = decided_by k w p true false e same (lt-leb 63 k h)
 
   pub decided_last : agrees w p.id k ≡ true → 63 ≤ k → decided w p ≡ with_mark p true Selected
-  decided_last same h = outcome true true same (le-leb 63 k h)
+  decided_last same h = decided_by k w p true true e same (le-leb 63 k h)
 
   pub decided_off : agrees w p.id k ≡ false → decided w p ≡ in_condition p Deaf
-  decided_off other = outcome false (leb 63 k) other refl
+  decided_off other = decided_by k w p false (leb 63 k) e other refl
 
 -- ---- the line
 
