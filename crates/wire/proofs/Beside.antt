@@ -1,6 +1,7 @@
 -- Two tables side by side whose first entries have been gone through.
 --   paired_at       an entry that is still to come is as it was
---   paired_set      one entry more, in place
+--   paired_next     one entry more; paired_set, in place
+--   paired_length   as many as there were
 --   paired_all      all of them, and the entries behind
 --   all_zip         a test of every pair
 use mathlib.Core.Path.{◌≡◌, refl, ap, ap₂, ◌∙◌}
@@ -15,7 +16,13 @@ use Rattle.line.specs.Line.{all}
 use Rattle.wire.specs.Pairs.{paired, both_all}
 
 module _ {A B : Type 0} where
-  paired_at : (f : A → B → B) (xs : List A) (ys : List B) (i : ℕ) (e : B) → get_or (paired f (take i xs) ys) i e ≡ get_or ys i e
+  pub paired_length : (f : A → B → B) (xs : List A) (ys : List B) → length (paired f xs ys) ≡ length ys
+  unfolding paired
+  paired_length f [] ys = refl
+  paired_length f (a ∷ xs) [] = refl
+  paired_length f (a ∷ xs) (b ∷ ys) = ap suc (paired_length f xs ys)
+
+  pub paired_at : (f : A → B → B) (xs : List A) (ys : List B) (i : ℕ) (e : B) → get_or (paired f (take i xs) ys) i e ≡ get_or ys i e
   unfolding paired
   paired_at f xs ys zero e = refl
   paired_at f [] ys (suc i) e = refl
@@ -30,7 +37,7 @@ module _ {A B : Type 0} where
   next f (a ∷ xs) (b ∷ ys) zero d e h k = refl
   next f (a ∷ xs) (b ∷ ys) (suc i) d e h k = ap (λ (t : List B). f a b ∷ t) (next f xs ys i d e (omega arith) (omega arith))
 
-  paired_next : (f : A → B → B) (xs : List A) (ys : List B) (i : ℕ) (d : A) (e : B) → i < length xs → i < length ys
+  pub paired_next : (f : A → B → B) (xs : List A) (ys : List B) (i : ℕ) (d : A) (e : B) → i < length xs → i < length ys
       → set (paired f (take i xs) ys) i (f (get_or xs i d) (get_or ys i e)) ≡ paired f (take (i + 1) xs) ys
   paired_next f xs ys i d e h k = rw add-one (next f xs ys i d e h k)
 

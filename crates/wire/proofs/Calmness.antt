@@ -1,5 +1,6 @@
 -- A calm probe, slot by slot.
 --   calm_awake      it is not selected
+--   calm_less       it is calm for one slot less
 --   calm_step       and so is what a slot makes of it
 use mathlib.Core.Path.{◌≡◌, refl, ap, ◌∙◌}
 use mathlib.Core.Bool.{Bool, true, false, cond, false≢true}
@@ -38,6 +39,11 @@ less n (Sending k) e = le-leb (k + n) 64 (omega (arith, leb-true (k + suc n) 64 
 less n (Matching k f) e = le-leb (k + n) 64 (omega (arith, leb-true (k + suc n) 64 e))
 less n (Searching k s) e = le-leb (slot_of k s + n) 192 (omega (arith, leb-true (slot_of k s + suc n) 192 e))
 less n Selected e = absurd (false≢true e)
+
+pub calm_less : (n : ℕ) (p : Probe) → calm (suc n) p ≡ true → calm n p ≡ true
+unfolding calm
+calm_less zero p e = refl
+calm_less (suc n) p e = less (suc n) p.condition e
 
 -- of two probes by a test, where either is calm
 either : (n : ℕ) (t : Bool) (p q : Probe) → calm_in n p.condition ≡ true → calm_in n q.condition ≡ true

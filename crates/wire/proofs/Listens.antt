@@ -2,6 +2,7 @@
 --   beyond           what a table of chips is read as behind its end
 --   listens_not      a probe that is not selected does not listen
 --   lets_quiet, hears_not, quieted_not     one that does not listen sends nothing, hears nothing, and is not deaf behind the slot
+--   quieted_on_lem   nor is one whose chip is not over
 --   calm_some        whether a probe is calm for some slots
 use mathlib.Core.Path.{◌≡◌, refl, sym, ap, ◌∙◌}
 use mathlib.Core.Bool.{Bool, true, false, cond, ◌&&◌}
@@ -23,7 +24,7 @@ beyond =
     let s : Sensor = record { pointer = 0; registers = [] } in
     record { address = 0; sensor = s; packet = no_packet s }
 
--- two tests in a row of which the first fails
+-- two tests in a row of which the second fails
 no_second : (s : Bool) → (s && false) ≡ false
 no_second true = refl
 no_second false = refl
@@ -45,6 +46,12 @@ module _ (v : ℕ) (p : Probe) (c : Chip) where
   pub quieted_not : listens v p c ≡ false → quieted v c p ≡ p
   unfolding quieted
   quieted_not e = ap (λ (t : Bool). cond (t && is_over c) (in_condition p Deaf) p) e
+
+  pub quieted_on_lem : is_over c ≡ false → quieted v c p ≡ p
+  unfolding quieted
+  quieted_on_lem e =
+      ap (λ (t : Bool). cond (listens v p c && t) (in_condition p Deaf) p) e
+      ∙ ap (λ (t : Bool). cond t (in_condition p Deaf) p) (no_second (listens v p c))
 
 pub calm_some : (n : ℕ) (p : Probe) → (n ≡ 0 → ⊥) → calm n p ≡ calm_in n p.condition
 unfolding calm
