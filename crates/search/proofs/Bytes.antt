@@ -1,14 +1,16 @@
 -- The bytes of a list of IDs.
 --   length_list_of    eight for each ID
+--   get_d_bytes_from   byte k of an ID
 --   le_bytes_from     what `to_le_bytes` gives of an ID
 --   list_of_append    the bytes of two lists of IDs
 --   written_more, length_written   one ID more in the list buffer, which is as long as it was
 use mathlib.Core.Path.{◌≡◌, refl, sym, ap, ap₂, ◌∙◌}
 use mathlib.Core.List.{List, [], ◌∷◌, ◌++◌, append-nil, append_assoc}
-use Prim.Native.Nat.{ℕ, zero, suc, ◌+◌, ◌*◌, ◌/◌, ◌%◌, ◌^◌, ◌≤◌}
+use Prim.Native.Nat.{ℕ, zero, suc, ◌+◌, ◌*◌, ◌/◌, ◌%◌, ◌^◌, ◌<◌, ◌≤◌}
 use native.Mathlib.Nat.{div-div-eq-div-mul, div-one, pow-suc}
 use native.Mathlib.Omega.{arith}
-use lib.ListN.{length, drop, length-append, length-drop}
+use lib.ListN.{length, get_or, drop, length-append, length-drop}
+use lib.Pow.{pow-add}
 use lib.Seq.{take_all, take_at, drop-append-add, drop-drop, paste}
 use Rattle.std.specs.Int.{bytes_low_first}
 use Rattle.search.specs.Search.{bytes_from, list_of, written}
@@ -23,6 +25,19 @@ unfolding list_of
 length_list_of [] = refl
 length_list_of (i ∷ ids) =
     omega (arith, length-append (bytes_from 8 i) (list_of ids), length_bytes_from 8 i, length_list_of ids)
+
+-- byte k of an ID
+pub get_d_bytes_from : (n i k : ℕ) → k < n → get_or (bytes_from n i) k 0 ≡ i / 2 ^ (8 * k) % 256
+unfolding bytes_from
+get_d_bytes_from zero i k h = absurd (omega arith)
+get_d_bytes_from (suc n) i zero h = ap (λ (m : ℕ). m % 256) (sym (div-one i))
+get_d_bytes_from (suc n) i (suc k) h = get_d_bytes_from n (i / 256) k (omega arith) ∙ ap (λ (m : ℕ). m % 256) (lower i k)
+  where
+    lower : (i k : ℕ) → i / 256 / 2 ^ (8 * k) ≡ i / 2 ^ (8 * suc k)
+    lower i k =
+        div-div-eq-div-mul i 256 (2 ^ (8 * k))
+        ∙ ap (λ (m : ℕ). i / m) (sym (pow-add 2 8 (8 * k)))
+        ∙ ap (λ (m : ℕ). i / 2 ^ m) (omega arith)
 
 -- n bytes of an ID from byte k on
 low_first : (n k i : ℕ) → bytes_low_first k n i ≡ bytes_from n (i / 256 ^ k)
