@@ -1,5 +1,6 @@
 -- The run of a script, event by event.
 --   step_of, step_at_event               what an event gives, by its case
+--   step_write, _read, _wait, _fit       by its kind, and by what was computed for it
 --   line_of_text                          its line
 --   script_number_case                    the number of a script and of any other bytes
 --   run_number_is, run_values_is           the run's number, and how many bytes it writes
@@ -18,6 +19,7 @@ use lib.Dec.{eqb}
 use Rattle.std.proofs.Common.{Result, Ok, Err}
 use lib.ListN.{length, length-append}
 use lib.Seq.{sets, length-sets}
+use borrow.Author.Tests.{ne_eqb}
 use Rattle.line.specs.declared.Refusal.{Refusal as WrongFitting}
 use Rattle.line.specs.declared.Refusal.TheVariants as wrong
 use Rattle.line.specs.Line.{fit_number, number_returned}
@@ -55,6 +57,25 @@ module _ (s : List ℕ) (k : ℕ) (b : Bridge) where
       go (suc (suc zero)) h = refl
       go (suc (suc (suc zero))) h = refl
       go (suc (suc (suc (suc kind)))) h = absurd (omega arith)
+
+  pub step_write : (n x : ℕ) (after : Bridge) → kind_at s k ≡ 0 → n ≡ length_at s k → x ≡ write_number (bytes_at s (k + 4) n) b → after ≡ after_write (bytes_at s (k + 4) n) b → step_at s k b ≡ record { letter = 0x57; value = decimal x; bridge = after }
+  unfolding step_at write_step
+  step_write n x after kind len number state =
+      simp kind (ap (λ (m : ℕ). write_step (bytes_at s (k + 4) m) b) (sym len) ∙ ap₂ (λ (y : ℕ) (z : Bridge). record { letter = 0x57; value = decimal y; bridge = z }) (sym number) (sym state))
+
+  pub step_read : (x : ℕ) → kind_at s k ≡ 1 → x ≡ read_of b → step_at s k b ≡ record { letter = 0x52; value = hexadecimal x; bridge = b }
+  unfolding step_at read_step
+  step_read x kind byte = simp kind (ap (λ (y : ℕ). record { letter = 0x52; value = hexadecimal y; bridge = b }) (sym byte))
+
+  pub step_wait : (after : Bridge) → kind_at s k ≡ 2 → after ≡ after_time b → step_at s k b ≡ record { letter = 0x54; value = decimal 0; bridge = after }
+  unfolding step_at wait_step
+  step_wait after kind state = simp kind (ap (λ (z : Bridge). record { letter = 0x54; value = decimal 0; bridge = z }) (sym state))
+
+  pub step_fit : (x : ℕ) (after : Bridge) → (kind_at s k ≡ 0 → ⊥) → (kind_at s k ≡ 1 → ⊥) → (kind_at s k ≡ 2 → ⊥) → x ≡ fit_number (bytes_at s (k + 2) 8) b.line → after ≡ after_fitting (bytes_at s (k + 2) 8) b → step_at s k b ≡ record { letter = 0x46; value = decimal x; bridge = after }
+  unfolding step_at fit_step
+  step_fit x after w r t number state =
+      simp (ne_eqb (kind_at s k) 0 w, ne_eqb (kind_at s k) 1 r, ne_eqb (kind_at s k) 2 t)
+      (ap₂ (λ (y : ℕ) (z : Bridge). record { letter = 0x46; value = decimal y; bridge = z }) (sym number) (sym state))
 
 pub write_is : (x : List ℕ) (b : Bridge) (r : Result Bridge Refusal) → number_in r ≡ write_number x b → bridge_in b r ≡ after_write x b → record { letter = 0x57; value = decimal (number_in r); bridge = bridge_in b r } ≡ write_step x b
 unfolding write_step
