@@ -1,4 +1,5 @@
-"""The public functions of the libraries, as their sources have them, with their contracts and their laws of one answer."""
+"""The public functions of the libraries and those of their traits, as their sources have them, with their contracts and their laws of one
+answer."""
 
 import re
 from typing import NamedTuple
@@ -7,6 +8,9 @@ PASSED_OVER = re.compile(r'''//[^\n]*|/\*.*?\*/|b"(?:\\.|[^"\\])*"|b'(?:\\.|[^'\
 PUBLIC = re.compile(r'\bpub\s+(?:\w+\s+|"C"\s+)*fn\s+(\w+)')
 HEAD = re.compile(r"(?:<[^>]*>)?\s*\(([^()]*)\)\s*(?:->\s*(.+?)\s*)?(?=\b(?:requires|ensures|ghost)\b|\{)", re.S)
 IMPL = re.compile(r"\bimpl\b(?:<[^>]*>)?\s*(\w+)[^{]*\{")
+OF_TRAIT = re.compile(r"\bimpl\b(?:<[^>]*>)?\s+(?:\w+::)*(\w+)(?:<([^{}]*)>)?\s+for\s+(?:\w+::)*(\w+)[^{]*\{")
+TRAIT = re.compile(r"\b(pub\s+)?trait\s+(\w+)[^{]*\{")
+ANY = re.compile(r"\bfn\s+(\w+)")
 
 LAW = re.compile(r'^ *pub (one_\w+) :(.*?)^ *\1 ', re.M | re.S)
 USE = re.compile(r'^use Rattle\.(\w+)\.(?:proofs|specs\.contracts)\.(\S+) as (\S+)$', re.M)
@@ -24,8 +28,9 @@ GENERIC = re.compile(r'((?:\(\w+ : _\) )+)→ (.*)')
 
 
 class Function(NamedTuple):
-    """A public function: its crate, the type or module that it is in, if any, and its name; its text, up to the next function; its
-    parameters as (name, type), and the type of its result."""
+    """A public function, or one of a trait: its crate, the type or module that it is in, if any, and its name; its text, up to the next
+    function; its parameters as (name, type), and the type of its result. One of a trait is in what a check calls the `impl`, as
+    LineSlotBySlot; what the trait asks and promises is part of its text; and a trait's own argument stands in the name of its law."""
 
     crate: str
     within: str
@@ -33,6 +38,7 @@ class Function(NamedTuple):
     text: str
     parameters: tuple
     result: str
+    argument: str = ''
 
     @property
     def path(self):
@@ -45,7 +51,8 @@ class Function(NamedTuple):
     @property
     def law(self):
         """The name of its law: a C name stands there without the crate's name before it."""
-        return 'one_' + self.name.removeprefix(f'{self.crate}_' if self.crate == 'trelvox' else '')
+        name = self.name.removeprefix(f'{self.crate}_' if self.crate == 'trelvox' else '')
+        return '_'.join(filter(None, ('one', name, self.argument)))
 
     @property
     def law_of_type(self):
@@ -74,14 +81,19 @@ def libraries(root):
 # ---- functions
 
 
+def closed(text, begin):
+    """Where the block ends whose content begins here."""
+    depth, end = 1, begin
+    while depth and end < len(text):
+        depth += {'{': 1, '}': -1}.get(text[end], 0)
+        end += 1
+    return end
+
+
 def impls(text):
     """Each `impl` with its type, where it begins and where it ends."""
     for found in IMPL.finditer(text):
-        depth, end = 1, found.end()
-        while depth and end < len(text):
-            depth += {'{': 1, '}': -1}.get(text[end], 0)
-            end += 1
-        yield found[1], found.start(), end
+        yield found[1], found.start(), closed(text, found.end())
 
 
 def parameters_of(text):
@@ -91,11 +103,47 @@ def parameters_of(text):
         yield name.removeprefix('mut ').strip(), ' '.join(kind.split())
 
 
+def trait_in(root, name):
+    """A trait of the libraries: whether it is public, and its text; none where it is std's."""
+    for crate in libraries(root):
+        for source in (crate / 'src').glob('**/*.rt'):
+            for found in TRAIT.finditer(source.read_text()):
+                if found[2] == name:
+                    text = found.string
+                    return bool(found[1]), PASSED_OVER.sub(' ', text[found.end():closed(text, found.end())])
+    return None
+
+
+def said(trait, ghosts, name):
+    """What a trait asks and promises of its function of this name. From gives what the `impl` says by `from_gives`."""
+    if trait is None:
+        return ghosts.replace('from_gives', 'ensures')
+    found = re.search(rf'\bfn\s+{name}\b.*?(?=\bfn\b|$)', trait[1], re.S)
+    return found[0] if found else ''
+
+
+def of_traits(crate, text):
+    """The functions of traits, as the crate's types have them; those of a trait that is not public are left out."""
+    for found in OF_TRAIT.finditer(text):
+        name, argument, kind = found[1], re.findall(r'[A-Za-z0-9]+', found[2] or ''), found[3]
+        trait = trait_in(crate.parent.parent, name)
+        block = text[found.end():closed(text, found.end())]
+        own = list(ANY.finditer(block)) if trait is None or trait[0] else []
+        for function in own:
+            rest = re.split(r'\bfn\b', block[function.end():], maxsplit=1)[0]
+            head = HEAD.match(rest)
+            within = kind + name + ''.join(word[0].upper() + word[1:] for word in argument)
+            stated = said(trait, block[:own[0].start()], function[1])
+            yield Function(crate.name, within, function[1], f'{function[0]}{rest} {stated}', tuple(parameters_of(head[1])),
+                           ' '.join((head[2] or '').split()), '_'.join(argument).lower())
+
+
 def functions(crate):
-    """The public functions of a crate, in the order of its sources."""
+    """The public functions of a crate and those of traits, in the order of its sources."""
     found = []
     for source in sorted((crate / 'src').glob('**/*.rt')):
         text = PASSED_OVER.sub(' ', source.read_text())
+        found += of_traits(crate, text)
         blocks = list(impls(text))
         for public in PUBLIC.finditer(text):
             module = '' if source.stem == 'lib' else source.stem

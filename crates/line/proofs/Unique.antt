@@ -13,6 +13,7 @@ use Rattle.line.proofs.Line.slot.Reads as slot
 use Rattle.line.proofs.Line.reset.Reads as reset
 use Rattle.line.proofs.Line.fit.Reads as fit
 use Rattle.line.proofs.Refusal.number.Reads as number
+use Rattle.line.proofs.RefusalFromIdentityRefusal.from.Reads as from_identity_refusal
 
 pub one_bare : OneAnswer bare.Post
 one_bare κ a x y s t p q = p ∙ sym q
@@ -42,6 +43,9 @@ one_slot κ a x y s t p q = parts (p.0 ∙ sym q.0) (p.1 ∙ sym q.1)
 
 pub one_number : OneAnswer number.Post
 one_number κ a x y s t p q = p ∙ sym q
+
+pub one_from_identity_refusal : OneAnswer from_identity_refusal.Post
+one_from_identity_refusal κ a x y s t p q = p ∙ sym q
 
 pub one_fit : OneAnswer fit.Post
 one_fit κ a x y s t p q = same_answer _ x y (p.0 ∙ sym q.0) (p.1 ∙ sym q.1)

@@ -8,6 +8,8 @@ use Rattle.roundtrip.specs.declared.Refusal.TheVariants.{Forming, Reading}
 use Rattle.roundtrip.specs.RoundTrip.{number_in, place_in}
 use Rattle.roundtrip.proofs.Refusal.number.Reads as number
 use Rattle.roundtrip.proofs.Refusal.place.Reads as place
+use Rattle.roundtrip.proofs.RefusalFromFormingRefusal.from.Reads as from_forming_refusal
+use Rattle.roundtrip.proofs.RefusalFromReadingRefusal.from.Reads as from_reading_refusal
 use Rattle.roundtrip.proofs.read_back_write.Reads as read_back_write
 use Rattle.roundtrip.proofs.read_back_read.Reads as read_back_read
 use Rattle.roundtrip.proofs.read_back_write_read.Reads as read_back_write_read
@@ -18,6 +20,12 @@ one_number κ a x y s t p q = p ∙ sym q
 
 pub one_place : OneAnswer place.Post
 one_place κ a x y s t p q = p ∙ sym q
+
+pub one_from_forming_refusal : OneAnswer from_forming_refusal.Post
+one_from_forming_refusal κ a x y s t p q = p ∙ sym q
+
+pub one_from_reading_refusal : OneAnswer from_reading_refusal.Post
+one_from_reading_refusal κ a x y s t p q = p ∙ sym q
 
 pub one_read_back_write : OneAnswerAnd read_back_write.Post (λ κ s. s.1.1.0.now)
 one_read_back_write κ a x y s t p q = (p.0 ∙ sym q.0, p.1 ∙ sym q.1)

@@ -12,6 +12,8 @@ use Rattle.station.specs.Station.{number_returned, station_in}
 use Rattle.bridge.proofs.Results.{told, told_withdrawal}
 use Rattle.station.proofs.Numbers.{never_zero}
 use Rattle.station.proofs.Refusal.number.Reads as number
+use Rattle.station.proofs.RefusalFromLineRefusal.from.Reads as from_line_refusal
+use Rattle.station.proofs.RefusalFromIdentityRefusal.from.Reads as from_identity_refusal
 use Rattle.station.proofs.Station.fit_chip.Reads as fit_chip
 use Rattle.station.proofs.Station.withdraw.Reads as withdraw
 use Rattle.station.proofs.Station.wait.Reads as wait
@@ -19,6 +21,12 @@ use Rattle.station.proofs.Station.quiet.Reads as quiet
 
 pub one_number : OneAnswer number.Post
 one_number κ a x y s t p q = p ∙ sym q
+
+pub one_from_line_refusal : OneAnswer from_line_refusal.Post
+one_from_line_refusal κ a x y s t p q = p ∙ sym q
+
+pub one_from_identity_refusal : OneAnswer from_identity_refusal.Post
+one_from_identity_refusal κ a x y s t p q = p ∙ sym q
 
 pub one_wait : OneAnswer wait.Post
 one_wait κ a x y s t p q = p ∙ sym q

@@ -5,6 +5,8 @@ use Rattle.line.proofs.Unique as one
 use Rattle.byte_slots.proofs.Unique as eight
 use Rattle.triplet_slots.proofs.Unique as three
 use Rattle.wire.proofs.Chips.none.Reads as none
+use Rattle.wire.proofs.WireSlotBySlot.level.Reads as level
+use Rattle.wire.proofs.WireSlotBySlot.taken.Reads as taken
 use Rattle.wire.proofs.Wire.slot.Reads as slot
 use Rattle.wire.proofs.Wire.slots.Reads as slots
 use Rattle.wire.proofs.Wire.triplet.Reads as triplet
@@ -14,6 +16,12 @@ use Rattle.wire.proofs.Wire.all_calm.Reads as all_calm
 
 pub one_none : OneAnswer none.Post
 one_none κ a x y s t p q = p ∙ sym q
+
+pub one_level : OneAnswer level.Post
+one_level κ a x y s t p q = p ∙ sym q
+
+pub one_taken : OneAnswer taken.Post
+one_taken κ a x y s t p q = p ∙ sym q
 
 pub one_slot : OneAnswer slot.Post
 one_slot κ a x y s t p q = one.parts (p.0 ∙ sym q.0) (p.1 ∙ sym q.1)
