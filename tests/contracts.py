@@ -107,10 +107,11 @@ def trait_in(root, name):
     """A trait of the libraries: whether it is public, and its text; none where it is std's."""
     for crate in libraries(root):
         for source in (crate / 'src').glob('**/*.rt'):
-            for found in TRAIT.finditer(source.read_text()):
+            text = source.read_text()
+            text = PASSED_OVER.sub(' ', text) if f'trait {name}' in text else ''
+            for found in TRAIT.finditer(text):
                 if found[2] == name:
-                    text = found.string
-                    return bool(found[1]), PASSED_OVER.sub(' ', text[found.end():closed(text, found.end())])
+                    return bool(found[1]), text[found.end():closed(text, found.end())]
     return None
 
 
