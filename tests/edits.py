@@ -15,6 +15,12 @@ def is_law(crate, name):
     return any(re.search(rf'^ *pub {re.escape(name)} :', page.read_text(), re.M) for page in pages)
 
 
+def is_part(crate, name):
+    """A function of a program, which has no public ones."""
+    sources = (crate / 'src').glob('**/*.rt') if (crate / 'src/main.rt').exists() else ()
+    return any(re.search(rf'\bfn {re.escape(name.rpartition("::")[2])}\b', source.read_text()) for source in sources)
+
+
 def heads(root):
     """Edits that do not begin with a rule and with what they are of, or name what the crate does not have."""
     public = {(crate.name, function.shown) for crate in libraries(root) for function in functions(crate)}
@@ -22,7 +28,8 @@ def heads(root):
         if not SENTENCE.fullmatch(edit.rule):
             yield f'{edit.crate}/{edit.name}: its first two lines are not `# RULE.` and `of: NAME, ..`'
         for name in edit.of:
-            if (edit.crate, name) not in public and not is_law(root / 'crates' / edit.crate, name):
+            crate = root / 'crates' / edit.crate
+            if (edit.crate, name) not in public and not is_law(crate, name) and not is_part(crate, name):
                 yield f'{edit.crate}/{edit.name}: {name} is neither a public function of {edit.crate} nor a law there'
 
 

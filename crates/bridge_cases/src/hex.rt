@@ -1,5 +1,5 @@
 // Bytes that are written as pairs of hexadecimal digits: read from a text in which everything else is passed over, and printed.
-ghost use Rattle.std.specs.Prelude.{◌<◌, IfSome};
+ghost use Rattle.std.specs.Prelude.{◌<◌, ◌≤◌, IfSome, length};
 
 use std::fmt;
 
@@ -17,7 +17,9 @@ fn value(c: u8) -> Option<u8>
 // The text's bytes, as many as there is room for, at the start of the room. A last digit with none behind it is the low half of a byte that
 // is not given back.
 // As it is: what is no digit is passed over, and a last digit alone is stored and not counted, which no method of the library does.
-pub(crate) fn decode<'a>(text: &[u8], room: &'a mut [u8]) -> &'a [u8] {
+pub(crate) fn decode<'a>(text: &[u8], room: &'a mut [u8]) -> &'a [u8]
+    ensures { length result.now ≤ length room.old }
+{
     let mut digits = text.iter().filter_map(|c| value(*c));
     let mut whole = 0;
     for byte in room.iter_mut() {

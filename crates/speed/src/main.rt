@@ -12,7 +12,7 @@
 
 use bridge::Bridge;
 use std::io;
-use std::io::Read;
+use std::io::{Cursor, Read};
 
 // The most letters of the input that are read.
 const MOST: usize = 120;
@@ -109,11 +109,15 @@ fn shown(rt: &impl Print, bridge: Bridge) -> io::Result<()> {
     println!(rt; "{:02x} {:02x}", bridge.read(), pointed.read())
 }
 
-// A letter that cannot be read ends the input.
+// All letters are read before the first work. Where the input cannot be read any further, what came is what there is.
 fn main(rt: HostRuntime) -> io::Result<()> {
+    let mut works = Cursor::new([0; MOST]);
+    // As it is: the bench reads so too, but programs share no code, and three lines in a library would be no plainer.
+    let _ = io::copy(&mut rt.stdin().take(MOST as u64), &mut works);
+    let end = works.position().min(MOST as u64) as usize;
     let mut bridge = with_64();
-    for work in rt.stdin().bytes().take(MOST).map_while(Result::ok) {
-        bridge = worked(&rt, bridge, work)?;
+    for work in &works.get_ref()[..end] {
+        bridge = worked(&rt, bridge, *work)?;
         shown(&rt, bridge)?;
     }
     Ok(())
