@@ -114,31 +114,29 @@ fn took_bits(before: Probe, byte: u8) -> Probe
     p
 }
 
-// One that matches its ID goes on by eight bits if all of them agree.
+// One that matches its ID goes on by eight bits if all of them agree. Each outcome is stored by itself: see `take_byte`.
 #[tactic(auto, using(crate::proofs::Whole::matching_byte, crate::proofs::Whole::matched_byte, crate::proofs::Whole::other_byte))]
-fn matched(p: Probe, bit: u8, fallback: bool, byte: u8) -> Probe
-    requires { p.condition ≡ Matching bit fallback }
-    ensures { result ≡ took_bits 8 byte p }
+fn match_byte(p: &mut Probe, bit: u8, fallback: bool, byte: u8)
+    requires { p.old.condition ≡ Matching bit fallback }
+    ensures { p.new ≡ took_bits 8 byte p.old }
 {
     if LAST_EIGHT < bit {
-        return took_bits(p, byte);
-    }
-    if eight_bits(p.id, bit) != byte {
-        return p.differed(fallback);
-    }
-    if bit < LAST_EIGHT {
-        p.in_condition(Condition::Matching {
+        *p = took_bits(*p, byte);
+    } else if eight_bits(p.id, bit) != byte {
+        *p = p.differed(fallback);
+    } else if bit < LAST_EIGHT {
+        *p = p.in_condition(Condition::Matching {
             bit: bit + 8,
             fallback,
-        })
+        });
     } else {
-        p.with_mark(true, Condition::Selected)
+        *p = p.with_mark(true, Condition::Selected);
     }
 }
 
 // No slot changes any probe of the line.
-fn all_rest(line: Line) -> bool
-    ensures { result ≡ all rests (fitted line) }
+fn all_rest(line: &Line) -> bool
+    ensures { result ≡ all rests (fitted line.now) }
 {
     let n = line.entries();
     line.probes[..n].iter().all(|p| p.rests())
@@ -146,8 +144,8 @@ fn all_rest(line: Line) -> bool
 
 // What eight slots come to, where that is settled before they begin: every probe is foreseen.
 #[tactic(auto, using(line::proofs::Front::all_next, crate::proofs::Turns::meet_next), unfolding(line::specs::Line::all, crate::specs::Foresight::meet))]
-fn outlook(line: Line, speed: u32, byte: u8) -> Option<u8>
-    ensures { IfSome result (λ levels. (all (foreseen speed 8) (fitted line) ≡ true) × (levels ≡ meet 8 byte (fitted line))) }
+fn outlook(line: &Line, speed: u32, byte: u8) -> Option<u8>
+    ensures { IfSome result (λ levels. (all (foreseen speed 8) (fitted line.now) ≡ true) × (levels ≡ meet 8 byte (fitted line.now))) }
 {
     let n = line.entries();
     let mut levels = byte;
@@ -163,13 +161,16 @@ fn outlook(line: Line, speed: u32, byte: u8) -> Option<u8>
 // A probe takes eight levels that reach it, the bits of a byte. A code of which no bit has come yet is the byte. Each outcome that is met
 // often has an assignment of its own, since one place that stores what several ways have made waits for the memory.
 // As it is: the probe's own condition says which step is taken, and no caller hands one in.
-#[tactic(auto, using(crate::proofs::Whole::resting_byte, crate::proofs::Whole::taking_byte, crate::proofs::Whole::sending_byte, crate::proofs::Whole::sent_byte), unfolding(probe::specs::Probe::obeyed))]
+#[tactic(auto, using(crate::proofs::Whole::resting_byte, crate::proofs::Whole::sending_byte, crate::proofs::Whole::sent_byte), unfolding(probe::specs::Probe::obeyed))]
 fn take_byte(p: &mut Probe, byte: u8)
     ensures { p.new ≡ took_bits 8 byte p.old }
 {
     match p.condition {
         Condition::Deaf | Condition::Selected => {}
-        Condition::Taking { count: 0, code: 0 } => match byte {
+        Condition::Taking {
+            count: 0,
+            code: _code,
+        } => match byte {
             READ_ROM => *p = p.with_mark(false, Condition::Sending { bit: 0 }),
             MATCH_ROM => *p = p.with_mark(false, MATCHING),
             SEARCH_ROM => *p = p.with_mark(false, SEARCHING),
@@ -181,7 +182,7 @@ fn take_byte(p: &mut Probe, byte: u8)
             bit: bit + 8,
         }),
         Condition::Sending { bit: LAST_EIGHT } => *p = p.in_condition(Condition::Selected),
-        Condition::Matching { bit, fallback } => *p = matched(*p, bit, fallback, byte),
+        Condition::Matching { bit, fallback } => match_byte(p, bit, fallback, byte),
         _ => *p = took_bits(*p, byte),
     }
 }
@@ -220,14 +221,14 @@ pub fn eight<L: SlotBySlot>(start: L, speed: u32, byte: u8) -> Levels<L>
 pub fn slots(line: Line, speed: u32, byte: u8) -> Levels<Line>
     ensures { (result.byte ≡ levels_of speed 8 byte line) × (result.line ≡ slots_of speed 8 byte line) }
 {
-    if all_rest(line) {
-        return Levels { byte, line };
-    }
-    let Some(levels) = outlook(line, speed, byte) else {
-        return eight(line, speed, byte);
-    };
-    Levels {
-        byte: levels,
-        line: taken_byte(line, levels),
+    if all_rest(&line) {
+        Levels { byte, line }
+    } else if let Some(levels) = outlook(&line, speed, byte) {
+        Levels {
+            byte: levels,
+            line: taken_byte(line, levels),
+        }
+    } else {
+        eight(line, speed, byte)
     }
 }

@@ -201,6 +201,10 @@ last_of : (s : Bool) → cond s true false ≡ s
 last_of true = refl
 last_of false = refl
 
+pub kept : (s : Bool) → s ≡ (s && true)
+kept true = refl
+kept false = refl
+
 in_turn : (s t u : Bool) → cond s (t && u) false ≡ (cond s t false && u)
 in_turn true t u = refl
 in_turn false t u = refl

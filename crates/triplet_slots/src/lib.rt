@@ -6,7 +6,7 @@
 // Worked example: a searching probe whose next bit is 1 gives the levels 1 and 0, and after a third slot of 1 it searches on.
 #![tactic(auto)]
 
-ghost use Rattle.std.specs.Prelude.{◌≡◌, true, IfSome};
+ghost use Rattle.std.specs.Prelude.{◌≡◌, true, not, IfSome};
 ghost use Rattle.line.specs.Line.{all, fitted, on_fitted};
 ghost use Rattle.byte_slots.specs.SlotBySlot.{slot_in};
 ghost use Rattle.triplet_slots.specs.Triplet.{chosen as chosen_by, first_level, second_level, written_bit, after_triplet};
@@ -72,13 +72,10 @@ fn all_decided(mut line: Line, level: bool) -> Line
     line
 }
 
-// What a probe lets the line be in the first two slots, where that is settled before they begin.
-fn two_levels(p: Probe, speed: u32) -> Option<(bool, bool)>
-    ensures { IfSome result (λ levels. Sends speed levels.0 levels.1 p) }
+// The bit that a probe sends in the first slot, and then its complement, where that is settled before they begin.
+fn next_bit(p: Probe, speed: u32) -> Option<bool>
+    ensures { IfSome result (λ bit. Sends speed bit (not bit) p) }
 {
-    if p.rests() {
-        return Some((true, true));
-    }
     if !p.reached(speed) {
         return None;
     }
@@ -89,20 +86,23 @@ fn two_levels(p: Probe, speed: u32) -> Option<(bool, bool)>
         return None;
     };
     let sent = identity::bit(p.id, bit);
-    Some((sent, !sent))
+    Some(sent)
 }
 
-// What the first two slots come to, where that is settled before they begin.
-fn outlook(line: Line, speed: u32) -> Option<(bool, bool)>
-    ensures { IfSome result (λ levels. (all (settled_at speed) (fitted line) ≡ true) × (levels.0 ≡ first_level speed line) × (levels.1 ≡ second_level speed line)) }
+// What the first two slots come to, where that is settled before they begin. Most probes of a pass rest, so these are passed by first.
+fn outlook(line: &Line, speed: u32) -> Option<(bool, bool)>
+    ensures { IfSome result (λ levels. (all (settled_at speed) (fitted line.now) ≡ true) × (levels.0 ≡ first_level speed line.now) × (levels.1 ≡ second_level speed line.now)) }
 {
     let n = line.entries();
     let mut first = true;
     let mut second = true;
     for p in &line.probes[..n] {
-        let (bit, complement) = two_levels(*p, speed)?;
+        if p.rests() {
+            continue;
+        }
+        let bit = next_bit(*p, speed)?;
         first = first & bit;
-        second = second & complement;
+        second = second & !bit;
     }
     Some((first, second))
 }
@@ -131,14 +131,15 @@ pub fn triplet(line: Line, speed: u32, direction: bool) -> Tripled<Line>
     ensures { (result.first ≡ first_level speed line) × (result.second ≡ second_level speed line)
         × (result.bit ≡ written_bit speed direction line) × (result.line ≡ after_triplet speed direction line) }
 {
-    let Some((first, second)) = outlook(line, speed) else {
-        return three(line, speed, direction);
-    };
-    let bit = chosen(first, second, direction);
-    Tripled {
-        first,
-        second,
-        bit,
-        line: all_decided(line, bit),
+    if let Some((first, second)) = outlook(&line, speed) {
+        let bit = chosen(first, second, direction);
+        Tripled {
+            first,
+            second,
+            bit,
+            line: all_decided(line, bit),
+        }
+    } else {
+        three(line, speed, direction)
     }
 }

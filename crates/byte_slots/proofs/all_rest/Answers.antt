@@ -12,6 +12,6 @@ use Rattle.byte_slots.proofs.all_rest.Goals as goal
 pub returns : goal.returns
 returns c =
     let e = c.entries-n in
-    let ps = take e.result c.args.line.probes in
+    let ps = take e.result c.args.line.now.probes in
     all_from_yields_List rests _ _ _ c.all.ensures.ran (YieldsList-from_slice ps cc) (λ x b q k. search (rules, tests))
     ∙ all_std rests ps ∙ ap (all rests) e.ensures.2

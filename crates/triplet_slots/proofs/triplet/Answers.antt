@@ -11,8 +11,8 @@ pub returns-in_default : goal.returns-in_default
 unfolding slot_in slot
 returns-in_default c = c.three.ensures
 
-pub returns : goal.returns
-returns c =
+pub returns-in-Some : goal.returns-in-Some
+returns-in-Some c =
     let a = c.args in
     let o = c.in-Some.ensures in
     let bit : c.chosen-bit.result ≡ written_bit a.speed a.direction a.line =

@@ -1,14 +1,10 @@
--- `triplet_slots::two_levels` meets its contract: a probe that rests sends nothing, and one in the first slot of a search bit sends the bit and
--- then its complement.
+-- `triplet_slots::next_bit` meets its contract: a probe in the first slot of a search bit sends the bit and then its complement.
 use mathlib.Core.Path.{◌≡◌, sym, ap, ◌∙◌}
 use borrow.Author.Rules.{rules}
 use Rattle.probe.specs.declared.Slot.TheVariants.{First}
 use Rattle.probe.specs.declared.Condition.TheVariants.{Searching}
-use Rattle.triplet_slots.proofs.Settled.{sends_resting, sends_first}
-use Rattle.triplet_slots.proofs.two_levels.Goals as goal
-
-pub returns-then-rests : goal.returns-then-rests
-returns-then-rests c = sends_resting c.args.speed c.args.p (sym c.rests.ensures ∙ c.if-rests.true)
+use Rattle.triplet_slots.proofs.Settled.{sends_first}
+use Rattle.triplet_slots.proofs.next_bit.Goals as goal
 
 pub returns : goal.returns
 returns c =
