@@ -76,14 +76,15 @@ pub extern "C" fn trelvox_read(packet: &[u8], parts: &mut [usize; 5]) -> u32
     ensures parts_after { parts.new ≡ numbers_of (reading_of packet.now) parts.old }
 {
     let reading = reading::read(packet);
-    if let Ok(read) = reading {
-        *parts = [
-            usize::from(read.code),
-            usize::from(read.address),
-            read.start,
-            read.len,
-            usize::from(read.count),
-        ];
-    }
-    u32::from(reading::number_in(reading)) + u32::from(reading::place_in(reading)) * 256
+    let Ok(read) = reading else {
+        return u32::from(reading::number_in(reading)) + u32::from(reading::place_in(reading)) * 256;
+    };
+    *parts = [
+        usize::from(read.code),
+        usize::from(read.address),
+        read.start,
+        read.len,
+        usize::from(read.count),
+    ];
+    0
 }
