@@ -39,8 +39,8 @@ impl Station {
     }
 
     // Its line and its chips.
-    pub(crate) fn wire(self) -> Wire
-        ensures { result ≡ wire_of self }
+    pub(crate) fn wire(&self) -> Wire
+        ensures { result ≡ wire_of self.now }
     {
         Wire {
             line: self.bridge.line,
@@ -134,6 +134,8 @@ impl Station {
         ensures { result ≡ is_quiet self }
     {
         let pending = self.bridge.registers.pending;
-        self.chips.count == 0 || !is_reset(pending) && self.wire().all_calm(slots_in(pending))
+        self.chips.count == 0
+            || !is_reset(pending)
+                && wire::chips_calm(&self.bridge.line, &self.chips, slots_in(pending))
     }
 }

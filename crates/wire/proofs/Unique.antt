@@ -13,6 +13,7 @@ use Rattle.wire.proofs.Wire.triplet.Reads as triplet
 use Rattle.wire.proofs.Wire.emptied.Reads as emptied
 use Rattle.wire.proofs.Wire.without.Reads as without
 use Rattle.wire.proofs.Wire.all_calm.Reads as all_calm
+use Rattle.wire.proofs.chips_calm.Reads as chips_calm
 
 pub one_none : OneAnswer none.Post
 one_none κ a x y s t p q = p ∙ sym q
@@ -40,3 +41,6 @@ one_without κ a x y s t p q = p ∙ sym q
 
 pub one_all_calm : OneAnswer all_calm.Post
 one_all_calm κ a x y s t p q = p ∙ sym q
+
+pub one_chips_calm : OneAnswer chips_calm.Post
+one_chips_calm κ a x y s t p q = p ∙ sym q

@@ -103,13 +103,13 @@ fn reset_reaches(p: Probe, speed: u32) -> bool
     speed == STANDARD || p.reached(speed)
 }
 
-// A chip that a 1-Wire reset at this speed reaches has gathered nothing.
-#[tactic(auto, unfolding(crate::specs::Wire::emptied_by))]
+// A chip that a 1-Wire reset at this speed reaches has gathered nothing. Its packet alone is stored, since the rest stays.
+#[tactic(auto, unfolding(crate::specs::Wire::emptied_by, chip::specs::Chip::emptied))]
 fn empty(c: &mut Chip, p: Probe, speed: u32)
     ensures { c.new ≡ emptied_by speed p c.old }
 {
     if c.address < NO_ADDRESS && reset_reaches(p, speed) {
-        *c = c.emptied();
+        c.packet = c.emptied().packet;
     }
 }
 
@@ -152,6 +152,29 @@ fn calm_with(p: Probe, c: Chip, n: u8) -> bool
 
 // ---- the line and its chips
 
+// How many probes have an entry among the chips. The other clauses are what a loop over both tables asks.
+fn pairs(line: &Line, chips: &Chips) -> usize
+    ensures { (result ≤ 64) × (length line.now.probes ≡ 64) × (length chips.now.table ≡ 64)
+        × (take result line.now.probes ≡ fellows line.now chips.now)
+        × (take result chips.now.table ≡ take line.now.count (take chips.now.count chips.now.table)) }
+{
+    let probes = line.entries();
+    let entries = chips.entries();
+    probes.min(entries)
+}
+
+// No chip is selected before any of the next n slots. A station's line and chips lie apart, and for a look they are not copied into a wire.
+#[tactic(auto, unfolding(crate::specs::Calm::all_calm))]
+pub fn chips_calm(line: &Line, chips: &Chips, n: u8) -> bool
+    ensures { result ≡ all_calm n line.now chips.now }
+{
+    let m = pairs(line, chips);
+    line.probes[..m]
+        .iter()
+        .zip(&chips.table[..m])
+        .all(|(p, c)| calm_with(*p, *c, n))
+}
+
 impl SlotBySlot for Wire {
     ghost level_in = { level_on };
 
@@ -164,33 +187,20 @@ impl SlotBySlot for Wire {
 
     // The chips hear the level before the probes take it.
     #[tactic(auto, unfolding(crate::specs::Wire::took_on))]
-    fn taken(self, speed: u32, level: bool) -> Wire {
-        let chips = self.heard(speed, level);
-        let quiet = Wire { chips, ..self }.quieted(speed);
-        Wire {
-            line: quiet.taken(speed, level),
-            chips,
-        }
+    fn taken(mut self, speed: u32, level: bool) -> Wire {
+        self.hear_level(speed, level);
+        self.quiet_over(speed);
+        self.line = self.line.taken(speed, level);
+        self
     }
 }
 
 impl Wire {
-    // How many probes have an entry among the chips. The other clauses are what a loop over both tables asks.
-    fn pairs(self) -> usize
-        ensures { (result ≤ 64) × (length self.line.probes ≡ 64) × (length self.chips.table ≡ 64)
-            × (take result self.line.probes ≡ fellows self.line self.chips)
-            × (take result self.chips.table ≡ take self.line.count (take self.chips.count self.chips.table)) }
-    {
-        let probes = self.line.entries();
-        let chips = self.chips.entries();
-        probes.min(chips)
-    }
-
     // No chip that listens sends 0.
-    fn all_let(self, speed: u32) -> bool
-        ensures { result ≡ both_all (lets speed) (fellows self.line self.chips) self.chips.table }
+    fn all_let(&self, speed: u32) -> bool
+        ensures { result ≡ both_all (lets speed) (fellows self.now.line self.now.chips) self.now.chips.table }
     {
-        let n = self.pairs();
+        let n = pairs(&self.line, &self.chips);
         self.line.probes[..n]
             .iter()
             .zip(&self.chips.table[..n])
@@ -199,30 +209,28 @@ impl Wire {
 
     // Every chip that listens hears the level.
     // As it is: one loop with a closure needs clauses for the closure that are longer than the loop it spares.
-    fn heard(self, speed: u32, level: bool) -> Chips
-        ensures { result ≡ heard_on speed level self.line self.chips }
+    fn hear_level(&mut self, speed: u32, level: bool)
+        ensures { (self.new.line ≡ self.old.line) × (self.new.chips ≡ heard_on speed level self.old.line self.old.chips) }
     {
-        let n = self.pairs();
-        let mut chips = self.chips;
-        let on = &mut chips;
-        // As it is: of a loop over `iter_mut().zip(..)` the proof of `heard_on` does not close; so in `quieted` and `emptied`.
+        let n = pairs(&self.line, &self.chips);
+        let line = &self.line;
+        let on = &mut self.chips;
+        // As it is: of a loop over `iter_mut().zip(..)` the proof of `heard_on` does not close; so in `quiet_over` and `emptied`.
         for (i, c) in on.table[..n].iter_mut().enumerate() {
-            hear(c, self.line.probes[i], speed, level);
+            hear(c, line.probes[i], speed, level);
         }
-        chips
     }
 
     // Every chip that listens and is over is deaf.
-    fn quieted(self, speed: u32) -> Line
-        ensures { result ≡ quieted_on speed self.chips self.line }
+    fn quiet_over(&mut self, speed: u32)
+        ensures { (self.new.line ≡ quieted_on speed self.old.chips self.old.line) × (self.new.chips ≡ self.old.chips) }
     {
-        let n = self.pairs();
-        let mut line = self.line;
-        let on = &mut line;
+        let n = pairs(&self.line, &self.chips);
+        let chips = &self.chips;
+        let on = &mut self.line;
         for (i, p) in on.probes[..n].iter_mut().enumerate() {
-            deafen(p, self.chips.table[i], speed);
+            deafen(p, chips.table[i], speed);
         }
-        line
     }
 
     // One slot, in which the bridge writes a bit.
@@ -256,16 +264,17 @@ impl Wire {
     }
 
     // Every chip that a 1-Wire reset at this speed reaches has gathered nothing.
-    pub fn emptied(self, speed: u32) -> Chips
+    pub fn emptied(mut self, speed: u32) -> Chips
         ensures { result ≡ emptied_on speed self.line self.chips }
     {
-        let n = self.pairs();
-        let mut chips = self.chips;
-        let on = &mut chips;
+        let n = pairs(&self.line, &self.chips);
+        let wire = &mut self;
+        let line = &wire.line;
+        let on = &mut wire.chips;
         for (i, c) in on.table[..n].iter_mut().enumerate() {
-            empty(c, self.line.probes[i], speed);
+            empty(c, line.probes[i], speed);
         }
-        chips
+        self.chips
     }
 
     // The chips without that of the probe with this ID. They are laid anew, one behind the other, over the entries of power-on.
@@ -273,7 +282,7 @@ impl Wire {
     pub fn without(self, id: u64) -> Chips
         ensures { result ≡ chips_without id self.line self.chips }
     {
-        let n = self.pairs();
+        let n = pairs(&self.line, &self.chips);
         let mut rest = Chips::none();
         for (p, c) in self.line.probes[..n].iter().zip(&self.chips.table) {
             if id != p.id {
@@ -286,14 +295,9 @@ impl Wire {
     }
 
     // No chip is selected before any of the next n slots, so that they are the line's alone.
-    #[tactic(auto, unfolding(crate::specs::Calm::all_calm))]
     pub fn all_calm(self, n: u8) -> bool
         ensures { result ≡ all_calm n self.line self.chips }
     {
-        let m = self.pairs();
-        self.line.probes[..m]
-            .iter()
-            .zip(&self.chips.table[..m])
-            .all(|(p, c)| calm_with(*p, *c, n))
+        chips_calm(&self.line, &self.chips, n)
     }
 }

@@ -17,7 +17,7 @@ use Rattle.wire.proofs.Wire.all_let.Goals as goal
 
 pub returns : goal.returns
 returns c =
-    let m = c.args.self in
+    let m = c.args.self.now in
     let f = lets c.args.speed in
     let e = c.pairs-n in
     let ps = take e.result m.line.probes in

@@ -5,4 +5,4 @@ use Rattle.wire.specs.Wire.{emptied_by}
 use Rattle.wire.proofs.Wire.emptied.Given as goal
 
 abbrev pub invariant-loop-i : goal.invariant-loop-i
-invariant-loop-i l = l.c-items ≡ paired (emptied_by l.speed) (take l.i l.self.line.probes) l.initial.c-items
+invariant-loop-i l = l.c-items ≡ paired (emptied_by l.speed) (take l.i l.fn.self.line.probes) l.initial.c-items
